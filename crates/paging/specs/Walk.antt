@@ -1,0 +1,108 @@
+-- Document 01: what one request does, and the walk over a trace.
+--
+-- A state of the walk is the clock, which is the moment of the new request, and the held entries in frame order: the entry of frame 0 first.
+-- In order: which frame; the two ways to write an entry; one request; the walk; its two readings, faults and plan; the state at a moment.
+-- Assumes nothing.
+use mathlib.Core.List.{List, [], _∷_, _++_}
+use mathlib.Core.Bool.{Bool, true, false}
+use Prim.Native.Nat.{ℕ, zero, suc, _+_}
+use lib.Dec.{eqb, ltb}
+use lib.ListN.{length, getD, set, drop}
+use Rattle.paging.specs.Lists.{pick, any, all, indexOf}
+use Rattle.paging.specs.Rules.{mark, chosen}
+use Rattle.paging.specs.declared.Page.{Page}
+use Rattle.paging.specs.declared.Entry.{Entry}
+use Rattle.paging.specs.declared.Rule.{Rule}
+use Rattle.paging.specs.declared.Outcome.{Outcome}
+use Rattle.paging.specs.declared.Outcome.the-variants.{Hit, Loaded, Dropped}
+
+-- ---- which frame
+
+-- page p is held
+unfoldable pub holds : ℕ → List Entry → Bool
+unfolding any
+holds p es = any (λ (e : Entry). eqb (e .page .0) p) es
+
+-- the frame that holds page p
+unfoldable pub frameOf : ℕ → List Entry → ℕ
+unfolding indexOf
+frameOf p es = indexOf (λ (e : Entry). eqb (e .page .0) p) es
+
+-- what a read past the last frame in use would give; no definition reads there
+abbrev pub zeroEntry : Entry
+zeroEntry =
+    record { page = record { 0 = 0 }; loaded = record { 0 = 0 }; last = record { 0 = 0 }; earlier = record { 0 = 0 } }
+
+abbrev pub entryAt : List Entry → ℕ → Entry
+entryAt es frame = getD es frame zeroEntry
+
+-- ---- the two ways to write an entry
+
+-- a page loaded at moment t: this request is its first
+abbrev pub loadedAt : ℕ → ℕ → Entry
+loadedAt t p =
+    record { page = record { 0 = p }; loaded = record { 0 = t }; last = record { 0 = t }; earlier = record { 0 = mark } }
+
+-- a page that is held and requested again at moment t
+abbrev pub renewed : ℕ → Entry → Entry
+renewed t e = record { page = e .page; loaded = e .loaded; last = record { 0 = t }; earlier = e .last }
+
+-- ---- one request, of page p at moment t: a hit; a load with room, in the lowest free frame; a load in place of the page dropped, in its frame
+
+unfoldable pub outcome : Rule → ℕ → ℕ → List ℕ → List Entry → Outcome
+unfolding holds chosen
+outcome rule n p rest es =
+    pick (holds p es) Hit
+    (pick (ltb (length es) n) Loaded (Dropped (entryAt es (chosen rule rest es) .page)))
+
+unfoldable pub next : Rule → ℕ → ℕ → ℕ → List ℕ → List Entry → List Entry
+unfolding holds frameOf chosen
+next rule n t p rest es =
+    pick (holds p es) (set es (frameOf p es) (renewed t (entryAt es (frameOf p es))))
+    (pick (ltb (length es) n) (es ++ (loadedAt t p ∷ []))
+    (set es (chosen rule rest es) (loadedAt t p)))
+
+-- ---- the walk, from any state
+
+unfoldable pub outcomes : Rule → ℕ → ℕ → List ℕ → List Entry → List Outcome
+unfolding outcome next
+outcomes rule n t [] es = []
+outcomes rule n t (p ∷ rest) es = outcome rule n p rest es ∷ outcomes rule n (suc t) rest (next rule n t p rest es)
+
+-- ---- its two readings
+
+-- a fault is a request whose page isn't held, whether or not something is dropped
+abbrev pub faultOf : Outcome → ℕ
+faultOf Hit = 0
+faultOf Loaded = 1
+faultOf (Dropped p) = 1
+
+-- the plan's word: the page to drop, or the mark
+abbrev pub wordOf : Outcome → ℕ
+wordOf Hit = mark
+wordOf Loaded = mark
+wordOf (Dropped p) = p .0
+
+unfoldable pub faultsIn : List Outcome → ℕ
+faultsIn [] = 0
+faultsIn (o ∷ os) = faultOf o + faultsIn os
+
+unfoldable pub planIn : List Outcome → List ℕ
+planIn [] = []
+planIn (o ∷ os) = wordOf o ∷ planIn os
+
+-- every rule starts empty
+unfoldable pub faults : Rule → ℕ → List ℕ → ℕ
+unfolding faultsIn outcomes
+faults rule n trace = faultsIn (outcomes rule n 0 trace [])
+
+unfoldable pub plan : Rule → ℕ → List ℕ → List ℕ
+unfolding planIn outcomes
+plan rule n trace = planIn (outcomes rule n 0 trace [])
+
+-- ---- the entries held just before the request of moment t, in a walk from empty
+
+unfoldable pub entriesAt : Rule → ℕ → List ℕ → ℕ → List Entry
+unfolding next
+entriesAt rule n trace zero = []
+entriesAt rule n trace (suc t) = next rule n t (getD trace t 0) (drop (suc t) trace) (entriesAt rule n trace t)
