@@ -1,7 +1,7 @@
 -- Document 01, "Four rules": which page goes when a fault finds the cache full.
 --
--- A rule is a description that one of the held entries drops: e drops, among the entries es, given the requests still to come.
--- The frame that is emptied is that of the entry that drops. proofs/Drops.antt says what each description means in terms of the trace.
+-- A rule is a description: `drops rule rest es e` is true of the entry e that goes, among the held entries es, with the requests rest still to come.
+-- Exactly one entry fits it (proofs/Drops.antt, which also says each description in terms of the trace); its frame is `chosen`.
 -- Assumes nothing.
 use mathlib.Core.Bool.{Bool, true, false}
 use mathlib.Core.List.{List, [], _∷_}

@@ -3,7 +3,7 @@
 -- A state of the walk is the clock, which is the moment of the new request, and the held entries in frame order: the entry of frame 0 first.
 -- In order: which frame; the two ways to write an entry; one request; the walk; its two readings, faults and plan; the state at a moment.
 -- Assumes nothing.
-use mathlib.Core.List.{List, [], _∷_, _++_}
+use mathlib.Core.List.{List, [], _∷_, _++_, map}
 use mathlib.Core.Bool.{Bool, true, false}
 use Prim.Native.Nat.{ℕ, zero, suc, _+_}
 use lib.Dec.{eqb, ltb}
@@ -35,6 +35,10 @@ zeroEntry =
 
 abbrev pub entryAt : List Entry → ℕ → Entry
 entryAt es frame = getD es frame zeroEntry
+
+-- the held pages in frame order
+abbrev pub pages : List Entry → List ℕ
+pages es = map (λ (e : Entry). e .page .0) es
 
 -- ---- the two ways to write an entry
 

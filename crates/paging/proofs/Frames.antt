@@ -1,0 +1,132 @@
+-- The frames, for any rule: held pages differ and are at most n, none is dropped unless the cache is full, exactly one on a fault in a full cache.
+--
+-- In order: the three ways of one request, as equations; what they do to the held pages; the same at every moment of a walk from empty.
+-- Assumes nothing.
+use mathlib.Core.Path.{_≡_, refl, sym, ap, _∙_}
+use mathlib.Core.Logic.{_⊎_, inl, inr, ⊎-elim}
+use mathlib.Core.Bool.{Bool, true, false}
+use mathlib.Core.List.{List, [], _∷_, _++_, map}
+use Prim.Native.Nat.{ℕ, zero, suc, _≤_, _<_}
+use native.Mathlib.Omega.{arith}
+use lib.Dec.{eqb, ltb}
+use lib.ListN.{length, getD, set, drop, length-set, length-map}
+use lib.Seq.{map-set-same}
+use borrow.Author.Tests.{eqb-true, eq-eqb, lt-ltb, le-ltb, ltb-true, ltb-false}
+use Rattle.paging.specs.Lists.{pick, any, indexOf}
+use Rattle.paging.specs.Rules.{chosen}
+use Rattle.paging.specs.Walk.{holds, frameOf, zeroEntry, entryAt, pages, loadedAt, renewed, outcome, next, entriesAt}
+use Rattle.paging.specs.Plans.{mem, placeOf}
+use Rattle.paging.specs.declared.Page.{Page}
+use Rattle.paging.specs.declared.Entry.{Entry}
+use Rattle.paging.specs.declared.Rule.{Rule}
+use Rattle.paging.specs.declared.Outcome.{Outcome}
+use Rattle.paging.specs.declared.Outcome.the-variants.{Hit, Loaded, Dropped}
+use Rattle.paging.proofs.Lists.{false≢true, any-map, index-map, getD-map, map-snoc, map-set, length-snoc}
+use Rattle.paging.proofs.Choice.{chosen-below}
+use Rattle.paging.proofs.Held.{In, Apart, mem-place, mem-in, in-mem, absent-in, apart-nil, apart-snoc, apart-set}
+
+-- ---- entries and their pages
+
+pub pages-length : (es : List Entry) → length (pages es) ≡ length es
+pages-length es = length-map es (λ (e : Entry). e .page .0)
+
+pub pages-at : (es : List Entry) (i : ℕ) → getD (pages es) i 0 ≡ entryAt es i .page .0
+pages-at es i = getD-map (λ (e : Entry). e .page .0) zeroEntry es i
+
+pub mem-pages : (p : ℕ) (es : List Entry) → mem p (pages es) ≡ holds p es
+unfolding mem holds
+mem-pages p es = any-map (λ (e : Entry). e .page .0) (λ (q : ℕ). eqb q p) es
+
+pub place-pages : (p : ℕ) (es : List Entry) → placeOf p (pages es) ≡ frameOf p es
+unfolding placeOf frameOf
+place-pages p es = index-map (λ (e : Entry). e .page .0) (λ (q : ℕ). eqb q p) es
+
+-- a held page stands in its frame
+pub held-frame : (p : ℕ) (es : List Entry) → holds p es ≡ true → (frameOf p es < length es) × (entryAt es (frameOf p es) .page .0 ≡ p)
+held-frame p es e =
+    let (h, g) = mem-place p (pages es) (mem-pages p es ∙ e) in (
+      omega (arith, rw (place-pages p es, pages-length es) at h),
+      sym (pages-at es (frameOf p es)) ∙ (rw (place-pages p es) at g),
+    )
+
+-- ---- the three ways of one request
+
+-- a hit; a fault with room; a fault in a full cache
+abbrev pub Ways : ℕ → ℕ → List Entry → Type 0
+Ways n p es = (holds p es ≡ true) ⊎ ((holds p es ≡ false) × (length es < n)) ⊎ ((holds p es ≡ false) × (n ≤ length es))
+
+pub ways : (n p : ℕ) (es : List Entry) → Ways n p es
+ways n p es = go (holds p es) (ltb (length es) n) refl refl
+  where
+    go : (b c : Bool) → holds p es ≡ b → ltb (length es) n ≡ c → Ways n p es
+    go true c q r = inl q
+    go false true q r = inr (inl (q, ltb-true _ _ r))
+    go false false q r = inr (inr (q, ltb-false _ _ r))
+
+module _ (rule : Rule) (n t p : ℕ) (rest : List ℕ) (es : List Entry) where
+  pub outcome-hit : holds p es ≡ true → outcome rule n p rest es ≡ Hit
+  unfolding outcome
+  outcome-hit q = rw q
+
+  pub outcome-room : holds p es ≡ false → length es < n → outcome rule n p rest es ≡ Loaded
+  unfolding outcome
+  outcome-room q h = rw (q, lt-ltb _ _ h)
+
+  pub outcome-full : holds p es ≡ false → n ≤ length es → outcome rule n p rest es ≡ Dropped (entryAt es (chosen rule rest es) .page)
+  unfolding outcome
+  outcome-full q h = rw (q, le-ltb _ _ h)
+
+  pub next-hit : holds p es ≡ true → next rule n t p rest es ≡ set es (frameOf p es) (renewed t (entryAt es (frameOf p es)))
+  unfolding next
+  next-hit q = rw q
+
+  pub next-room : holds p es ≡ false → length es < n → next rule n t p rest es ≡ es ++ (loadedAt t p ∷ [])
+  unfolding next
+  next-room q h = rw (q, lt-ltb _ _ h)
+
+  pub next-full : holds p es ≡ false → n ≤ length es → next rule n t p rest es ≡ set es (chosen rule rest es) (loadedAt t p)
+  unfolding next
+  next-full q h = rw (q, le-ltb _ _ h)
+
+  -- ---- what they do to the held pages
+
+  -- a hit leaves them
+  pub pages-hit : holds p es ≡ true → pages (next rule n t p rest es) ≡ pages es
+  pages-hit q = ap pages (next-hit q) ∙ map-set-same (λ (e : Entry). e .page .0) es (frameOf p es) (renewed t (entryAt es (frameOf p es))) zeroEntry refl
+
+  -- with room the new page takes the lowest free frame
+  pub pages-room : holds p es ≡ false → length es < n → pages (next rule n t p rest es) ≡ pages es ++ (p ∷ [])
+  pages-room q h = ap pages (next-room q h) ∙ map-snoc (λ (e : Entry). e .page .0) es (loadedAt t p)
+
+  -- in a full cache it takes the frame of the page dropped
+  pub pages-full : holds p es ≡ false → n ≤ length es → pages (next rule n t p rest es) ≡ set (pages es) (chosen rule rest es) p
+  pages-full q h = ap pages (next-full q h) ∙ map-set (λ (e : Entry). e .page .0) es (chosen rule rest es) (loadedAt t p)
+
+  pub next-apart : Apart (pages es) → Apart (pages (next rule n t p rest es))
+  next-apart a = go (ways n p es)
+    where
+      out : holds p es ≡ false → In p (pages es) → ⊥
+      out q = absent-in p (pages es) (mem-pages p es ∙ q)
+
+      go : Ways n p es → Apart (pages (next rule n t p rest es))
+      go (inl q) = rw (pages-hit q) a
+      go (inr (inl (q, h))) = rw (pages-room q h) (apart-snoc (pages es) p a (out q))
+      go (inr (inr (q, h))) = rw (pages-full q h) (apart-set (pages es) (chosen rule rest es) p a (out q))
+
+  pub next-size : length es ≤ n → length (next rule n t p rest es) ≤ n
+  next-size k = go (ways n p es)
+    where
+      go : Ways n p es → length (next rule n t p rest es) ≤ n
+      go (inl q) = rw (next-hit q) (simp length-set k)
+      go (inr (inl (q, h))) = rw (next-room q h) (omega (arith, length-snoc zeroEntry es (loadedAt t p)))
+      go (inr (inr (q, h))) = rw (next-full q h) (simp length-set k)
+
+  -- none is dropped unless the cache is full
+  pub dropped-full : (q : Page) → outcome rule n p rest es ≡ Dropped q
+      → (holds p es ≡ false) × (n ≤ length es) × (q ≡ entryAt es (chosen rule rest es) .page)
+  dropped-full q e = go (ways n p es)
+    where
+      go : Ways n p es → (holds p es ≡ false) × (n ≤ length es) × (q ≡ entryAt es (chosen rule rest es) .page)
+      go (inl h) = absurd (let z : _≡_ {A = ℕ} 0 1 = cc (outcome-hit h) in omega arith)
+      go (inr (inl (h, k))) = absurd (let z : _≡_ {A = ℕ} 0 1 = cc (outcome-room h k) in omega arith)
+      go (inr (inr (h, k))) = (h, k, (cc (outcome-full h k)))

@@ -1,0 +1,72 @@
+-- Lists of held pages: who is held and where, no page in two frames, and what keeps it so.
+-- Both the walk of a rule and the check of a plan are walks over such a list.
+-- Assumes nothing.
+use mathlib.Core.Path.{_≡_, refl, sym, ap, _∙_}
+use mathlib.Core.Logic.{_⊎_, inl, inr, ⊎-elim}
+use mathlib.Core.Bool.{Bool, true, false}
+use mathlib.Core.List.{List, [], _∷_, _++_, map}
+use Prim.Native.Nat.{ℕ, zero, suc, _≤_, _<_}
+use native.Mathlib.Omega.{arith}
+use lib.Dec.{eqb}
+use lib.ListN.{length, getD, set, length-set}
+use lib.Seq.{getD-set-same, getD-append-seam}
+use borrow.Author.Tests.{eqb-true, eq-eqb}
+use Rattle.paging.specs.Lists.{pick, any, indexOf}
+use Rattle.paging.specs.Plans.{mem, placeOf}
+use Rattle.paging.proofs.Lists.{false≢true, any-index, index-passes, index-is, at-any, none-at, snoc-cases, set-cases, length-snoc, getD-snoc-old}
+
+-- page p stands in some frame of the list
+abbrev pub In : ℕ → List ℕ → Type 0
+In p held = (i : ℕ) × (i < length held) × (getD held i 0 ≡ p)
+
+-- no page stands in two frames
+abbrev pub Apart : List ℕ → Type 0
+Apart held = (i j : ℕ) → i < length held → j < length held → getD held i 0 ≡ getD held j 0 → i ≡ j
+
+-- ---- the test and the frame
+
+pub in-mem : (p : ℕ) (held : List ℕ) → In p held → mem p held ≡ true
+unfolding mem
+in-mem p held (i, h, e) = at-any (λ (q : ℕ). eqb q p) 0 held i h (eq-eqb _ _ e)
+
+pub mem-place : (p : ℕ) (held : List ℕ) → mem p held ≡ true → (placeOf p held < length held) × (getD held (placeOf p held) 0 ≡ p)
+unfolding mem placeOf
+mem-place p held e =
+    let h : indexOf (λ (q : ℕ). eqb q p) held < length held = any-index (λ (q : ℕ). eqb q p) 0 held e in
+    (h, eqb-true _ _ (index-passes (λ (q : ℕ). eqb q p) 0 held h))
+
+pub mem-in : (p : ℕ) (held : List ℕ) → mem p held ≡ true → In p held
+mem-in p held e = let (h, g) = mem-place p held e in (placeOf p held, h, g)
+
+pub absent-in : (p : ℕ) (held : List ℕ) → mem p held ≡ false → In p held → ⊥
+absent-in p held e i = false≢true (sym e ∙ in-mem p held i)
+
+-- where pages stand apart, the frame of a held page is the one that it stands in
+pub place-is : (held : List ℕ) → Apart held → (i : ℕ) → i < length held → placeOf (getD held i 0) held ≡ i
+unfolding placeOf
+place-is held a i h = index-is _ 0 held i h (eq-eqb (getD held i 0) (getD held i 0) refl) (λ j k e. a j i k h (eqb-true _ _ e))
+
+-- ---- one page more, and one page in place of another
+
+pub apart-nil : Apart []
+apart-nil i j h k e = absurd (omega arith)
+
+pub apart-snoc : (held : List ℕ) (p : ℕ) → Apart held → (In p held → ⊥) → Apart (held ++ (p ∷ []))
+apart-snoc held p a out i j h k e = go (snoc-cases 0 held p i h) (snoc-cases 0 held p j k)
+  where
+    go : ((i < length held) × (getD (held ++ (p ∷ [])) i 0 ≡ getD held i 0)) ⊎ ((i ≡ length held) × (getD (held ++ (p ∷ [])) i 0 ≡ p))
+        → ((j < length held) × (getD (held ++ (p ∷ [])) j 0 ≡ getD held j 0)) ⊎ ((j ≡ length held) × (getD (held ++ (p ∷ [])) j 0 ≡ p)) → i ≡ j
+    go (inl (x, u)) (inl (y, v)) = a i j x y (sym u ∙ e ∙ v)
+    go (inl (x, u)) (inr (y, v)) = absurd (out (i, x, sym u ∙ e ∙ v))
+    go (inr (x, u)) (inl (y, v)) = absurd (out (j, y, sym v ∙ sym e ∙ u))
+    go (inr (x, u)) (inr (y, v)) = omega arith
+
+pub apart-set : (held : List ℕ) (f p : ℕ) → Apart held → (In p held → ⊥) → Apart (set held f p)
+apart-set held f p a out i j h k e = go (set-cases 0 held f p i h) (set-cases 0 held f p j k)
+  where
+    go : ((i ≡ f) × (getD (set held f p) i 0 ≡ p)) ⊎ (((i ≡ f) → ⊥) × (i < length held) × (getD (set held f p) i 0 ≡ getD held i 0))
+        → ((j ≡ f) × (getD (set held f p) j 0 ≡ p)) ⊎ (((j ≡ f) → ⊥) × (j < length held) × (getD (set held f p) j 0 ≡ getD held j 0)) → i ≡ j
+    go (inl (x, u)) (inl (y, v)) = omega arith
+    go (inl (x, u)) (inr (y, l, v)) = absurd (out (j, l, sym v ∙ sym e ∙ u))
+    go (inr (x, l, u)) (inl (y, v)) = absurd (out (i, l, sym u ∙ e ∙ v))
+    go (inr (x, l, u)) (inr (y, m, v)) = a i j l m (sym u ∙ e ∙ v)

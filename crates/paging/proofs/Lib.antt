@@ -1,0 +1,4 @@
+pub mod Lists
+pub mod Choice
+pub mod Held
+pub mod Frames
