@@ -3,7 +3,7 @@
 -- In order: the three ways of one request, as equations; what they do to the held pages; the same at every moment of a walk from empty.
 -- Assumes nothing.
 use mathlib.Core.Path.{_≡_, refl, sym, ap, _∙_}
-use mathlib.Core.Logic.{_⊎_, inl, inr, ⊎-elim}
+use mathlib.Core.Logic.{_⊎_, inl, inr, ⊎-elim, _↔_}
 use mathlib.Core.Bool.{Bool, true, false}
 use mathlib.Core.List.{List, [], _∷_, _++_, map}
 use Prim.Native.Nat.{ℕ, zero, suc, _≤_, _<_}
@@ -21,9 +21,9 @@ use Rattle.paging.specs.declared.Entry.{Entry}
 use Rattle.paging.specs.declared.Rule.{Rule}
 use Rattle.paging.specs.declared.Outcome.{Outcome}
 use Rattle.paging.specs.declared.Outcome.the-variants.{Hit, Loaded, Dropped}
-use Rattle.paging.proofs.Lists.{false≢true, any-map, index-map, getD-map, map-snoc, map-set, length-snoc}
+use Rattle.paging.proofs.Lists.{false≢true, any-map, index-map, getD-map, map-snoc, map-set, length-snoc, snoc-cases, set-cases}
 use Rattle.paging.proofs.Choice.{chosen-below}
-use Rattle.paging.proofs.Held.{In, Apart, mem-place, mem-in, in-mem, absent-in, apart-nil, apart-snoc, apart-set}
+use Rattle.paging.proofs.Held.{In, Apart, mem-place, mem-in, in-mem, absent-in, apart-nil, apart-snoc, apart-set, set-in}
 
 -- ---- entries and their pages
 
@@ -130,3 +130,83 @@ module _ (rule : Rule) (n t p : ℕ) (rest : List ℕ) (es : List Entry) where
       go (inl h) = absurd (let z : _≡_ {A = ℕ} 0 1 = cc (outcome-hit h) in omega arith)
       go (inr (inl (h, k))) = absurd (let z : _≡_ {A = ℕ} 0 1 = cc (outcome-room h k) in omega arith)
       go (inr (inr (h, k))) = (h, k, (cc (outcome-full h k)))
+
+-- ---- what they do to each entry
+
+-- the entry e of frame i after the request: the page just loaded; the page just renewed; or as it was, and of another page
+abbrev pub Became : ℕ → ℕ → List Entry → ℕ → Entry → Type 0
+Became t p es i e =
+    ((holds p es ≡ false) × (e ≡ loadedAt t p))
+    ⊎ ((holds p es ≡ true) × (frameOf p es < length es) × (entryAt es (frameOf p es) .page .0 ≡ p) × (e ≡ renewed t (entryAt es (frameOf p es))))
+    ⊎ ((i < length es) × (entryAt es i .page .0 ≡ p → ⊥) × (e ≡ entryAt es i))
+
+-- where a page isn't held, no frame has it
+pub absent-at : (p : ℕ) (es : List Entry) → holds p es ≡ false → (i : ℕ) → i < length es → entryAt es i .page .0 ≡ p → ⊥
+absent-at p es q i h e =
+    absent-in p (pages es) (mem-pages p es ∙ q) (i, omega (arith, pages-length es), pages-at es i ∙ e)
+
+-- in a list of pages that differ, only its own frame has a page
+pub frame-only : (p : ℕ) (es : List Entry) → Apart (pages es) → holds p es ≡ true → (i : ℕ) → i < length es → entryAt es i .page .0 ≡ p → i ≡ frameOf p es
+frame-only p es a q i h e =
+    let (k, g) = held-frame p es q in
+    a i (frameOf p es) (omega (arith, pages-length es)) (omega (arith, pages-length es)) (pages-at es i ∙ e ∙ sym g ∙ sym (pages-at es (frameOf p es)))
+
+module _ (rule : Rule) (n t p : ℕ) (rest : List ℕ) (es : List Entry) where
+  pub next-entry : Apart (pages es) → (i : ℕ) → i < length (next rule n t p rest es) → Became t p es i (entryAt (next rule n t p rest es) i)
+  next-entry a i h = go (ways n p es)
+    where
+      hit : holds p es ≡ true → Became t p es i (entryAt (next rule n t p rest es) i)
+      hit q =
+          let e : next rule n t p rest es ≡ set es (frameOf p es) (renewed t (entryAt es (frameOf p es))) = next-hit rule n t p rest es q in
+          let (k, g) = held-frame p es q in
+          rw e
+          (⊎-elim (λ w. inr (inl (q, k, g, w .1))) (λ w. inr (inr (w .1, (λ x. w .0 (frame-only p es a q i (w .1) x)), w .2)))
+          (set-cases zeroEntry es (frameOf p es) (renewed t (entryAt es (frameOf p es))) i (rw e at h)))
+
+      room : holds p es ≡ false → length es < n → Became t p es i (entryAt (next rule n t p rest es) i)
+      room q k =
+          let e : next rule n t p rest es ≡ es ++ (loadedAt t p ∷ []) = next-room rule n t p rest es q k in
+          rw e
+          (⊎-elim (λ w. inr (inr (w .0, absent-at p es q i (w .0), w .1))) (λ w. inl (q, w .1))
+          (snoc-cases zeroEntry es (loadedAt t p) i (rw e at h)))
+
+      full : holds p es ≡ false → n ≤ length es → Became t p es i (entryAt (next rule n t p rest es) i)
+      full q k =
+          let e : next rule n t p rest es ≡ set es (chosen rule rest es) (loadedAt t p) = next-full rule n t p rest es q k in
+          rw e
+          (⊎-elim (λ w. inl (q, w .1)) (λ w. inr (inr (w .1, absent-at p es q i (w .1), w .2)))
+          (set-cases zeroEntry es (chosen rule rest es) (loadedAt t p) i (rw e at h)))
+
+      go : Ways n p es → Became t p es i (entryAt (next rule n t p rest es) i)
+      go (inl q) = hit q
+      go (inr (inl (q, k))) = room q k
+      go (inr (inr (q, k))) = full q k
+
+-- ---- at every moment of a walk from empty
+
+module _ (rule : Rule) (n : ℕ) (trace : List ℕ) where
+  -- held pages differ
+  pub held-differ : (t : ℕ) → Apart (pages (entriesAt rule n trace t))
+  unfolding entriesAt
+  held-differ zero = apart-nil
+  held-differ (suc t) = next-apart rule n t (getD trace t 0) (drop (suc t) trace) (entriesAt rule n trace t) (held-differ t)
+
+  -- held pages are at most n
+  pub held-at-most : (t : ℕ) → length (entriesAt rule n trace t) ≤ n
+  unfolding entriesAt
+  held-at-most zero = omega arith
+  held-at-most (suc t) = next-size rule n t (getD trace t 0) (drop (suc t) trace) (entriesAt rule n trace t) (held-at-most t)
+
+-- exactly one page is dropped on a fault in a full cache: a page q that was held is held no more, the requested page is, and all others stay
+pub drops-exactly-one : (rule : Rule) (n t p : ℕ) (rest : List ℕ) (es : List Entry)
+    → Apart (pages es) → 0 < length es → holds p es ≡ false → n ≤ length es
+    → (q : Page) × (outcome rule n p rest es ≡ Dropped q) × In (q .0) (pages es)
+    × ((x : ℕ) → In x (pages (next rule n t p rest es)) ↔ ((x ≡ p) ⊎ (In x (pages es) × (x ≡ q .0 → ⊥))))
+drops-exactly-one rule n t p rest es a some q h =
+    let f : ℕ = chosen rule rest es in
+    let k : f < length (pages es) = omega (arith, pages-length es, chosen-below rule rest es some) in (
+      entryAt es f .page,
+      outcome-full rule n t p rest es q h,
+      (f, k, pages-at es f),
+      λ x. rw (pages-full rule n t p rest es q h, ← pages-at es f) (set-in (pages es) f p x a k),
+    )

@@ -2,14 +2,14 @@
 -- Both the walk of a rule and the check of a plan are walks over such a list.
 -- Assumes nothing.
 use mathlib.Core.Path.{_≡_, refl, sym, ap, _∙_}
-use mathlib.Core.Logic.{_⊎_, inl, inr, ⊎-elim}
+use mathlib.Core.Logic.{_⊎_, inl, inr, ⊎-elim, _↔_}
 use mathlib.Core.Bool.{Bool, true, false}
 use mathlib.Core.List.{List, [], _∷_, _++_, map}
 use Prim.Native.Nat.{ℕ, zero, suc, _≤_, _<_}
 use native.Mathlib.Omega.{arith}
 use lib.Dec.{eqb}
 use lib.ListN.{length, getD, set, length-set}
-use lib.Seq.{getD-set-same, getD-append-seam}
+use lib.Seq.{getD-set-same, getD-set-other, getD-append-seam}
 use borrow.Author.Tests.{eqb-true, eq-eqb}
 use Rattle.paging.specs.Lists.{pick, any, indexOf}
 use Rattle.paging.specs.Plans.{mem, placeOf}
@@ -70,3 +70,29 @@ apart-set held f p a out i j h k e = go (set-cases 0 held f p i h) (set-cases 0 
     go (inl (x, u)) (inr (y, l, v)) = absurd (out (j, l, sym v ∙ sym e ∙ u))
     go (inr (x, l, u)) (inl (y, v)) = absurd (out (i, l, sym u ∙ e ∙ v))
     go (inr (x, l, u)) (inr (y, m, v)) = a i j l m (sym u ∙ e ∙ v)
+
+-- ---- who is held after one page more, and after one page in place of another
+
+pub snoc-in : (held : List ℕ) (p x : ℕ) → In x (held ++ (p ∷ [])) ↔ ((x ≡ p) ⊎ In x held)
+snoc-in held p x = (there, back)
+  where
+    there : In x (held ++ (p ∷ [])) → (x ≡ p) ⊎ In x held
+    there (i, h, e) = ⊎-elim (λ w. inr (i, w .0, sym (w .1) ∙ e)) (λ w. inl (sym e ∙ w .1)) (snoc-cases 0 held p i h)
+
+    back : (x ≡ p) ⊎ In x held → In x (held ++ (p ∷ []))
+    back (inl e) = (length held, omega (arith, length-snoc 0 held p), getD-append-seam held p [] 0 ∙ sym e)
+    back (inr (i, h, e)) = (i, omega (arith, length-snoc 0 held p), getD-snoc-old 0 held p i h ∙ e)
+
+pub set-in : (held : List ℕ) (f p x : ℕ) → Apart held → f < length held
+    → In x (set held f p) ↔ ((x ≡ p) ⊎ (In x held × (x ≡ getD held f 0 → ⊥)))
+set-in held f p x a k = (there, back)
+  where
+    there : In x (set held f p) → (x ≡ p) ⊎ (In x held × (x ≡ getD held f 0 → ⊥))
+    there (i, h, e) =
+        ⊎-elim (λ w. inl (sym e ∙ w .1)) (λ w. inr ((i, w .1, sym (w .2) ∙ e), λ y. w .0 (a i f (w .1) k (sym (w .2) ∙ e ∙ y))))
+        (set-cases 0 held f p i h)
+
+    back : (x ≡ p) ⊎ (In x held × (x ≡ getD held f 0 → ⊥)) → In x (set held f p)
+    back (inl e) = (f, omega (arith, length-set held f p), getD-set-same held f p 0 k ∙ sym e)
+    back (inr ((i, h, e), out)) =
+        (i, omega (arith, length-set held f p), getD-set-other held f i p 0 (λ y. out (sym e ∙ ap (λ (j : ℕ). getD held j 0) y)) ∙ e)
