@@ -15,16 +15,16 @@ use lib.Seq.{getD-drop}
 use borrow.Author.Tests.{leb-true, eqb-true, eqb-false, eq-eqb}
 use Rattle.paging.specs.Lists.{pick, both, implies, any, all, indexOf}
 use Rattle.paging.specs.Rules.{mark, nextOf, never, once, lruDrops, fifoDrops, minDrops, lru2Drops, drops, chosen}
-use Rattle.paging.specs.Walk.{zeroEntry, entryAt, pages, outcome, entriesAt}
+use Rattle.paging.specs.Walk.{zeroEntry, entryAt, pages, outcomes, entriesAt}
 use Rattle.paging.specs.declared.Page.{Page}
 use Rattle.paging.specs.declared.Entry.{Entry}
 use Rattle.paging.specs.declared.Rule.{Rule}
 use Rattle.paging.specs.declared.Rule.the-variants.{Lru, Fifo, Min, Lru2}
-use Rattle.paging.specs.declared.Outcome.the-variants.{Dropped}
+use Rattle.paging.specs.declared.Outcome.the-variants.{Hit, Dropped}
 use Rattle.paging.proofs.Lists.{false≢true, true≢false, bool-cases, both-first, both-second, implied, all-at, none-at, index-passes, index-first}
 use Rattle.paging.proofs.Choice.{next-le, never-next, chosen-below, chosen-drops}
 use Rattle.paging.proofs.Held.{In}
-use Rattle.paging.proofs.Frames.{pages-length, pages-at, dropped-full, held-at-most}
+use Rattle.paging.proofs.Frames.{pages-length, pages-at, dropped-full, outcome-at}
 use Rattle.paging.proofs.Moments.{Asked, Missed, Latest, latest-one, latest-le, Means, fields-mean}
 
 -- ---- words
@@ -360,15 +360,15 @@ row-fits Fifo n trace t inside short = fifo-fits Fifo n trace t inside
 row-fits Min n trace t inside short = min-fits Min n trace t inside
 row-fits Lru2 n trace t inside short = lru2-fits Lru2 n trace t inside short
 
--- the page dropped is held and fits its rule's row, and no other held page does
+-- the page that the walk drops at moment t is held and fits its rule's row, and no other held page does
 pub what-each-rule-drops : (rule : Rule) (n : ℕ) (trace : List ℕ) (t : ℕ) → 1 ≤ n → length trace ≤ mark → t < length trace
-    → (q : Page) → outcome rule n (getD trace t 0) (drop (suc t) trace) (entriesAt rule n trace t) ≡ Dropped q
+    → (q : Page) → getD (outcomes rule n 0 trace []) t Hit ≡ Dropped q
     → Held rule n trace t (q .0) × Row rule n trace t (q .0) × ((r : ℕ) → Held rule n trace t r → Row rule n trace t r → r ≡ q .0)
 what-each-rule-drops rule n trace t some short inside q e =
     let held : List Entry = entriesAt rule n trace t in
     let come : List ℕ = drop (suc t) trace in
     let f : ℕ = chosen rule come held in
-    let (absent, full, is) = dropped-full rule n t (getD trace t 0) come held q e in
+    let (absent, full, is) = dropped-full rule n t (getD trace t 0) come held q (sym (outcome-at rule n trace t inside Hit) ∙ e) in
     let k : f < length held = chosen-below rule come held (omega arith) in
     let there : Held rule n trace t (q .0) = (f, omega (arith, pages-length held), pages-at held f ∙ ap (λ (p : Page). p .0) (sym is)) in
     let fits : Row rule n trace t (q .0) =

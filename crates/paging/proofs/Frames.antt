@@ -6,15 +6,15 @@ use mathlib.Core.Path.{_≡_, refl, sym, ap, _∙_}
 use mathlib.Core.Logic.{_⊎_, inl, inr, ⊎-elim, _↔_}
 use mathlib.Core.Bool.{Bool, true, false}
 use mathlib.Core.List.{List, [], _∷_, _++_, map}
-use Prim.Native.Nat.{ℕ, zero, suc, _≤_, _<_}
+use Prim.Native.Nat.{ℕ, zero, suc, _+_, _≤_, _<_}
 use native.Mathlib.Omega.{arith}
 use lib.Dec.{eqb, ltb}
 use lib.ListN.{length, getD, set, drop, length-set, length-map}
-use lib.Seq.{map-set-same}
+use lib.Seq.{map-set-same, drop-cons}
 use borrow.Author.Tests.{eqb-true, eq-eqb, lt-ltb, le-ltb, ltb-true, ltb-false}
 use Rattle.paging.specs.Lists.{pick, any, indexOf}
 use Rattle.paging.specs.Rules.{chosen}
-use Rattle.paging.specs.Walk.{holds, frameOf, zeroEntry, entryAt, pages, loadedAt, renewed, outcome, next, entriesAt}
+use Rattle.paging.specs.Walk.{holds, frameOf, zeroEntry, entryAt, pages, loadedAt, renewed, outcome, next, outcomes, entriesAt}
 use Rattle.paging.specs.Plans.{mem, placeOf}
 use Rattle.paging.specs.declared.Page.{Page}
 use Rattle.paging.specs.declared.Entry.{Entry}
@@ -196,6 +196,23 @@ module _ (rule : Rule) (n : ℕ) (trace : List ℕ) where
   unfolding entriesAt
   held-at-most zero = omega arith
   held-at-most (suc t) = next-size rule n t (getD trace t 0) (drop (suc t) trace) (entriesAt rule n trace t) (held-at-most t)
+
+  -- the state at a moment is the walk's: the outcome of each moment is that of one request on it
+  abbrev pub outcomeAt : ℕ → Outcome
+  outcomeAt t = outcome rule n (getD trace t 0) (drop (suc t) trace) (entriesAt rule n trace t)
+
+  outcome-from : (i t : ℕ) → t + i < length trace → (d : Outcome) → getD (outcomes rule n t (drop t trace) (entriesAt rule n trace t)) i d ≡ outcomeAt (t + i)
+  unfolding outcomes entriesAt
+  outcome-from zero t h d =
+      let e : t ≡ t + 0 = omega arith in
+      rw (drop-cons trace t 0 (let k : t < length trace = omega arith in k)) (ap outcomeAt e)
+  outcome-from (suc i) t h d =
+      let e : suc t + i ≡ t + suc i = omega arith in
+      rw (drop-cons trace t 0 (let k : t < length trace = omega arith in k)) (outcome-from i (suc t) (omega arith) d ∙ ap outcomeAt e)
+
+  pub outcome-at : (t : ℕ) → t < length trace → (d : Outcome) → getD (outcomes rule n 0 trace []) t d ≡ outcomeAt t
+  unfolding entriesAt
+  outcome-at t h d = let e : 0 + t ≡ t = omega arith in outcome-from t 0 (omega arith) d ∙ ap outcomeAt e
 
 -- exactly one page is dropped on a fault in a full cache: a page q that was held is held no more, the requested page is, and all others stay
 pub drops-exactly-one : (rule : Rule) (n t p : ℕ) (rest : List ℕ) (es : List Entry)

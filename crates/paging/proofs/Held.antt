@@ -13,7 +13,7 @@ use lib.Seq.{getD-set-same, getD-set-other, getD-append-seam}
 use borrow.Author.Tests.{eqb-true, eq-eqb}
 use Rattle.paging.specs.Lists.{pick, any, indexOf}
 use Rattle.paging.specs.Plans.{mem, placeOf}
-use Rattle.paging.proofs.Lists.{false≢true, any-index, index-passes, index-is, at-any, none-at, snoc-cases, set-cases, length-snoc, getD-snoc-old}
+use Rattle.paging.proofs.Lists.{false≢true, bool-cases, any-index, index-passes, index-is, at-any, none-at, snoc-cases, set-cases, length-snoc, getD-snoc-old}
 
 -- page p stands in some frame of the list
 abbrev pub In : ℕ → List ℕ → Type 0
@@ -40,6 +40,9 @@ mem-in p held e = let (h, g) = mem-place p held e in (placeOf p held, h, g)
 
 pub absent-in : (p : ℕ) (held : List ℕ) → mem p held ≡ false → In p held → ⊥
 absent-in p held e i = false≢true (sym e ∙ in-mem p held i)
+
+pub not-in : (p : ℕ) (held : List ℕ) → (In p held → ⊥) → mem p held ≡ false
+not-in p held out = ⊎-elim (λ e. absurd (out (mem-in p held e))) (λ e. e) (bool-cases (mem p held))
 
 -- where pages stand apart, the frame of a held page is the one that it stands in
 pub place-is : (held : List ℕ) → Apart held → (i : ℕ) → i < length held → placeOf (getD held i 0) held ≡ i

@@ -4,3 +4,6 @@ pub mod Held
 pub mod Frames
 pub mod Moments
 pub mod Drops
+pub mod Own
+pub mod PlanRule
+pub mod Calls
