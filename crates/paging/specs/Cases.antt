@@ -1,5 +1,5 @@
 -- Document 01, "Trials on both sides": the cases marked P, in its order, as one theorem over one list.
--- Beside them: FIFO can fault more with more frames; and the order of refusals, on calls with several causes.
+-- Beside them: a case for each clause that they leave open; FIFO can fault more with more frames; and the order of refusals, on calls with several causes.
 -- Assumes nothing.
 use mathlib.Core.Path.{_≡_, refl}
 use mathlib.Core.List.{List, [], _∷_, _++_}
@@ -89,6 +89,24 @@ comesOut (checks m trace words answer) = sameAnswer (check m trace words) answer
 pub cases-hold : all comesOut cases ≡ true
 unfolding all comesOut cases
 cases-hold = refl
+
+-- ---- a case for each clause that the P cases leave open
+
+pub clauses : List Case
+unfolding o
+clauses =
+    plans Lru 2 (1 ∷ 2 ∷ 1 ∷ 3 ∷ []) (o ∷ o ∷ o ∷ 2 ∷ []) 3
+    ∷ plans Fifo 2 (1 ∷ 2 ∷ 1 ∷ 3 ∷ []) (o ∷ o ∷ o ∷ 1 ∷ []) 3
+    ∷ plans Lru2 3 (1 ∷ 1 ∷ 2 ∷ 3 ∷ 4 ∷ []) (o ∷ o ∷ o ∷ o ∷ 2 ∷ []) 4
+    ∷ plans Lru2 2 (1 ∷ 2 ∷ 2 ∷ 1 ∷ 3 ∷ []) (o ∷ o ∷ o ∷ o ∷ 1 ∷ []) 3
+    ∷ plans Min 2 (9 ∷ 8 ∷ 7 ∷ []) (o ∷ o ∷ 8 ∷ []) 3
+    ∷ checks 3 (5 ∷ 6 ∷ []) (o ∷ 5 ∷ []) (Refused (PlanBroken 1))
+    ∷ checks 1 (5 ∷ 6 ∷ []) (o ∷ 5 ∷ 9 ∷ []) (Faults 2)
+    ∷ []
+
+pub clauses-hold : all comesOut clauses ≡ true
+unfolding all comesOut clauses
+clauses-hold = refl
 
 -- ---- FIFO can fault more with more frames
 
