@@ -7,3 +7,4 @@ pub mod Drops
 pub mod Own
 pub mod PlanRule
 pub mod Calls
+pub mod Picks

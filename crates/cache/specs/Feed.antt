@@ -1,0 +1,54 @@
+-- Document 01, the service Feed: one step of the walk on the record's entries as they stand.
+-- Assumes nothing.
+use mathlib.Core.List.{List, [], _∷_}
+use mathlib.Core.Bool.{Bool, true, false}
+use Prim.Native.Nat.{ℕ}
+use lib.Dec.{eqb}
+use Rattle.paging.specs.Lists.{pick, not}
+use Rattle.paging.specs.Rules.{mark}
+use Rattle.paging.specs.Walk.{outcome, next}
+use Rattle.paging.specs.Calls.{requestLimit, Test, test, gate}
+use Rattle.paging.specs.declared.Gate.{Gate}
+use Rattle.paging.specs.declared.Gate.the-variants.{Open, No}
+use Rattle.paging.specs.declared.Outcome.{Outcome}
+use Rattle.paging.specs.declared.Refusal.the-variants.{UnsoundRecord, MarkRequested, ClockFull}
+use Rattle.cache.specs.declared.Cache.{Cache}
+use Rattle.cache.specs.declared.Served.{Served}
+use Rattle.cache.specs.declared.Reply.{Reply}
+use Rattle.cache.specs.declared.Reply.the-variants.{Hit, Loaded, Dropped, Refused}
+use Rattle.cache.specs.declared.Fed.{Fed}
+use Rattle.cache.specs.Record.{heldEntries, ruleOf, holding}
+use Rattle.cache.specs.Sound.{sound}
+
+-- one request, of a record that is sound: the record's rule on its entries as they stand, the clock being the moment of the request
+unfoldable pub served : Cache → ℕ → Served
+unfolding outcome next
+served c p =
+    record {
+      outcome = outcome (ruleOf c) (c .frames) p [] (heldEntries c);
+      next = holding c (next (ruleOf c) (c .frames) (c .clock) p [] (heldEntries c));
+    }
+
+-- in Feed's words
+abbrev pub replyOf : Outcome → Reply
+replyOf Rattle.paging.specs.declared.Outcome.the-variants.Hit = Hit
+replyOf Rattle.paging.specs.declared.Outcome.the-variants.Loaded = Loaded
+replyOf (Rattle.paging.specs.declared.Outcome.the-variants.Dropped p) = Dropped p
+
+-- the order in Feed: 5, 4, 8
+unfoldable pub feedTests : Cache → ℕ → List Test
+unfolding sound
+feedTests c p =
+    test (not (sound c)) UnsoundRecord
+    ∷ test (eqb p mark) (MarkRequested 0)
+    ∷ test (eqb (c .clock) requestLimit) ClockFull
+    ∷ []
+
+-- a refused Feed hands back the record it got
+abbrev pub fedBy : Gate → Cache → ℕ → Fed
+fedBy Open c p = record { outcome = replyOf (served c p .outcome); next = served c p .next }
+fedBy (No refusal) c p = record { outcome = Refused refusal; next = c }
+
+unfoldable pub fed : Cache → ℕ → Fed
+unfolding feedTests gate served
+fed c p = fedBy (gate (feedTests c p)) c p

@@ -1,0 +1,83 @@
+-- Document 01, "Cache record" and the service Fresh.
+--
+-- A record is a state of the walk with its list of entries padded to 256 by blank ones.
+-- Assumes nothing.
+use mathlib.Core.List.{List, [], _∷_, _++_}
+use mathlib.Core.Bool.{Bool, true, false}
+use Prim.Native.Nat.{ℕ, _+_, _-_}
+use lib.Dec.{eqb}
+use lib.ListN.{length, take, drop, replicate}
+use Rattle.paging.specs.Lists.{pick, not}
+use Rattle.paging.specs.Rules.{mark, ruleNumbered}
+use Rattle.paging.specs.Calls.{frameLimit, Test, test, gate, outside}
+use Rattle.paging.specs.declared.Entry.{Entry}
+use Rattle.paging.specs.declared.Rule.{Rule}
+use Rattle.paging.specs.declared.Rule.the-variants.{Lru}
+use Rattle.paging.specs.declared.Numbered.{Numbered}
+use Rattle.paging.specs.declared.Numbered.the-variants.{Is, Unknown}
+use Rattle.paging.specs.declared.Gate.{Gate}
+use Rattle.paging.specs.declared.Gate.the-variants.{Open, No}
+use Rattle.paging.specs.declared.Refusal.the-variants.{UnknownRule, FramesOutside}
+use Rattle.cache.specs.declared.Cache.{Cache}
+use Rattle.cache.specs.declared.Fresh.{Fresh}
+
+-- ---- blank and empty
+
+-- all marks
+abbrev pub blankEntry : Entry
+blankEntry =
+    record { page = record { 0 = mark }; loaded = record { 0 = mark }; last = record { 0 = mark }; earlier = record { 0 = mark } }
+
+-- the empty cache of a given rule and size
+abbrev pub emptyCache : ℕ → ℕ → Cache
+emptyCache rule frames =
+    record { rule = rule; frames = frames; clock = 0; held = 0; entries = replicate frameLimit blankEntry }
+
+-- rule, frames, clock and held zero and every entry all marks
+abbrev pub blankCache : Cache
+blankCache = emptyCache 0 0
+
+-- ---- what a record holds
+
+abbrev pub heldOf : Cache → ℕ
+heldOf c = c .held
+
+-- the entries in use, in frame order
+abbrev pub heldEntries : Cache → List Entry
+heldEntries c = take (heldOf c) (c .entries)
+
+-- the record's rule; a sound record has one
+abbrev pub named : Numbered → Rule
+named (Is rule) = rule
+named Unknown = Lru
+
+abbrev pub ruleOf : Cache → Rule
+ruleOf c = named (ruleNumbered (c .rule))
+
+-- the record c with these entries in use, one request later
+abbrev pub holding : Cache → List Entry → Cache
+holding c es =
+    record {
+      rule = c .rule;
+      frames = c .frames;
+      clock = c .clock + 1;
+      held = length es;
+      entries = es ++ replicate (frameLimit - length es) blankEntry;
+    }
+
+-- ---- Fresh
+
+-- rule is 1, 2 or 4: MIN can't be fed
+abbrev pub feedable : ℕ → Bool
+feedable rule = pick (eqb rule 1) true (pick (eqb rule 2) true (eqb rule 4))
+
+unfoldable pub freshTests : ℕ → ℕ → List Test
+freshTests rule frames = test (not (feedable rule)) UnknownRule ∷ test (outside frames) (FramesOutside 0) ∷ []
+
+abbrev pub freshBy : Gate → ℕ → ℕ → Fresh
+freshBy Open rule frames = record { gate = Open; cache = emptyCache rule frames }
+freshBy (No refusal) rule frames = record { gate = No refusal; cache = blankCache }
+
+unfoldable pub freshOf : ℕ → ℕ → Fresh
+unfolding freshTests gate
+freshOf rule frames = freshBy (gate (freshTests rule frames)) rule frames
