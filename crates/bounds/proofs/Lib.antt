@@ -1,2 +1,3 @@
 pub mod Pigeonhole
 pub mod PlanSide
+pub mod Phases
