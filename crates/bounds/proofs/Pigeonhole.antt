@@ -4,6 +4,7 @@
 -- lengthened by one or stored to, and in which no page stands twice.
 -- Assumes nothing.
 use mathlib.Core.Path.{_≡_, refl, sym, ap, _∙_, subst}
+use mathlib.Core.Logic.{_⊎_, inl, inr, ⊎-elim}
 use mathlib.Core.Bool.{Bool, true, false}
 use mathlib.Core.List.{List, [], _∷_, _++_}
 use Prim.Native.Nat.{ℕ, zero, suc, _+_, _*_, _≤_, _<_}
@@ -90,6 +91,28 @@ pigeonhole c xs (y ∷ ys) few w =
     rest : Within (without y xs) ys
     rest z h = go z (eqb z y) refl h (w z (omega (arith, times-without z y xs)))
 
+-- ---- one page more
+
+-- a new page leaves each page at most once
+pub once-cons : (p : ℕ) (xs : List ℕ) → (Among p xs → ⊥) → ((z : ℕ) → times z xs ≤ 1) → (z : ℕ) → times z (p ∷ xs) ≤ 1
+unfolding times
+once-cons p xs out once z = go (eqb z p) refl
+  where
+    go : (b : Bool) → eqb z p ≡ b → pick b 1 0 + times z xs ≤ 1
+    go true q = rw (eqb-true z p q) (omega (arith, out))
+    go false q = omega (arith, once z)
+
+pub among-cons : (z p : ℕ) (xs : List ℕ) → Among z (p ∷ xs) → (z ≡ p) ⊎ Among z xs
+unfolding times
+among-cons z p xs h = go (eqb z p) refl h
+  where
+    go : (b : Bool) → eqb z p ≡ b → 0 < pick b 1 0 + times z xs → (z ≡ p) ⊎ Among z xs
+    go true q h = inl (eqb-true z p q)
+    go false q h = inr (omega arith)
+
+pub within-cons : (p : ℕ) (xs ys : List ℕ) → Among p ys → Within xs ys → Within (p ∷ xs) ys
+within-cons p xs ys a w z h = ⊎-elim (λ q. rw q a) (w z) (among-cons z p xs h)
+
 -- ---- lists of held pages
 
 pub times-snoc : (z : ℕ) (xs : List ℕ) (p : ℕ) → times z (xs ++ (p ∷ [])) ≡ times z xs + same z p
@@ -125,11 +148,8 @@ among-in z (x ∷ xs) h = go (eqb z x) refl h (among-in z xs)
 pub apart-once : (xs : List ℕ) → Apart xs → (z : ℕ) → times z xs ≤ 1
 unfolding times
 apart-once [] a z = omega arith
-apart-once (x ∷ xs) a z = go (eqb z x) refl (apart-once xs (λ i j h k e. omega (arith, a (suc i) (suc j) (omega arith) (omega arith) e)) z)
+apart-once (x ∷ xs) a z =
+    once-cons x xs again (apart-once xs (λ i j h k e. omega (arith, a (suc i) (suc j) (omega arith) (omega arith) e))) z
   where
-    again : z ≡ x → Among z xs → ⊥
-    again q h = let (i, k, e) = among-in z xs h in omega (arith, a 0 (suc i) (omega arith) (omega arith) (sym q ∙ sym e))
-
-    go : (b : Bool) → eqb z x ≡ b → times z xs ≤ 1 → pick b 1 0 + times z xs ≤ 1
-    go true q ih = omega (arith, again (eqb-true z x q))
-    go false q ih = omega arith
+    again : Among x xs → ⊥
+    again h = let (i, k, e) = among-in x xs h in omega (arith, a 0 (suc i) (omega arith) (omega arith) (sym e))
