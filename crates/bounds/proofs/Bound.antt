@@ -3,13 +3,12 @@
 --
 -- The statement is specs/Bound.antt. After D. Sleator and R. Tarjan, "Amortized efficiency of list update and paging rules", 1985.
 -- Assumes nothing.
-use mathlib.Core.Path.{_≡_}
 use Prim.Native.Nat.{ℕ}
 use native.Mathlib.Omega.{arith}
 use Rattle.paging.specs.declared.Entry.{Entry}
 use Rattle.paging.specs.declared.Rule.{Rule}
 use Rattle.paging.specs.declared.Rule.the-variants.{Lru, Fifo}
-use Rattle.bounds.specs.Bound.{Range, Demanded, Sharp, Bound, ForBoth}
+use Rattle.bounds.specs.Bound.{Demanded, Sharp, Bound, ForBoth}
 use Rattle.bounds.proofs.Phases.{frugal-bound}
 use Rattle.bounds.proofs.RuleSide.{Aged, aged-frugal, lru-aged, fifo-aged}
 

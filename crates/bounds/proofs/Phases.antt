@@ -3,8 +3,8 @@
 -- The trace falls into phases. A phase ends at a fault of the rule; each but the first holds c * n of them, the first what is left over. The rule and the
 -- plan are walked together, once, over the trace. In order: what is asked of a rule; the state of a phase; one request; all of them; the bound.
 -- Assumes nothing.
-use mathlib.Core.Path.{_≡_, refl, sym, ap, _∙_}
-use mathlib.Core.Logic.{_⊎_, inl, inr, ⊎-elim}
+use mathlib.Core.Path.{_≡_, refl, sym, _∙_}
+use mathlib.Core.Logic.{inl, inr}
 use mathlib.Core.Bool.{Bool, true, false}
 use mathlib.Core.List.{List, [], _∷_}
 use Prim.Native.Nat.{ℕ, zero, suc, _+_, _-_, _*_, _/_, _%_, _≤_, _<_}
@@ -13,17 +13,15 @@ use native.Mathlib.Decide.{decLe}
 use native.Mathlib.Nat.{mul-le-mul-left, mul-le-mul-right, div-add-mod', mod-lt}
 use lib.ListN.{length}
 use Rattle.paging.specs.Lists.{pick}
-use Rattle.paging.specs.Walk.{holds, outcome, next, outcomes, faultOf, faultsIn, faults}
-use Rattle.paging.specs.Plans.{mem, after, absent, judged, checkFrom, check}
+use Rattle.paging.specs.Walk.{holds, next, outcomes, faultsIn, faults}
+use Rattle.paging.specs.Plans.{after, absent, judged, checkFrom, check}
 use Rattle.paging.specs.declared.Entry.{Entry}
 use Rattle.paging.specs.declared.Rule.{Rule}
-use Rattle.paging.specs.declared.Outcome.the-variants.{Hit, Loaded, Dropped}
-use Rattle.paging.specs.declared.Gate.the-variants.{Open, No}
-use Rattle.paging.specs.declared.Answer.the-variants.{Faults, Refused}
+use Rattle.paging.specs.declared.Gate.the-variants.{Open}
+use Rattle.paging.specs.declared.Answer.the-variants.{Faults}
 use Rattle.paging.specs.declared.Refusal.the-variants.{LentTooShort}
-use Rattle.paging.proofs.Lists.{bool-cases}
 use Rattle.paging.proofs.Frames.{Ways, ways, outcome-hit, outcome-room, outcome-full}
-use Rattle.bounds.proofs.Pigeonhole.{times, Among, Within}
+use Rattle.bounds.proofs.Pigeonhole.{Among, Within}
 use Rattle.bounds.proofs.PlanSide.{refused-faults, check-step, check-rises, Served, served}
 
 -- ---- what is asked of a rule

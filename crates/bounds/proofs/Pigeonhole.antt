@@ -1,9 +1,9 @@
 -- How often a page stands in a list, and the pigeonhole principle.
 --
--- A page is among those of a list if it stands there at least once. In order: counting; the principle; lists of held pages, which are
+-- A page is among those of a list if it stands there at least once. In order: counting; one page more; the principle; lists of held pages, which are
 -- lengthened by one or stored to, and in which no page stands twice.
 -- Assumes nothing.
-use mathlib.Core.Path.{_≡_, refl, sym, ap, _∙_, subst}
+use mathlib.Core.Path.{_≡_, refl, sym, subst}
 use mathlib.Core.Logic.{_⊎_, inl, inr, ⊎-elim}
 use mathlib.Core.Bool.{Bool, true, false}
 use mathlib.Core.List.{List, [], _∷_, _++_}
@@ -35,6 +35,28 @@ Within xs ys = (z : ℕ) → Among z xs → Among z ys
 
 pub same-self : (z : ℕ) → same z z ≡ 1
 same-self z = rw (eq-eqb z z refl)
+
+-- ---- one page more
+
+pub among-cons : (z p : ℕ) (xs : List ℕ) → Among z (p ∷ xs) → (z ≡ p) ⊎ Among z xs
+unfolding times
+among-cons z p xs h = go (eqb z p) refl h
+  where
+    go : (b : Bool) → eqb z p ≡ b → 0 < pick b 1 0 + times z xs → (z ≡ p) ⊎ Among z xs
+    go true q h = inl (eqb-true z p q)
+    go false q h = inr (omega arith)
+
+pub within-cons : (p : ℕ) (xs ys : List ℕ) → Among p ys → Within xs ys → Within (p ∷ xs) ys
+within-cons p xs ys a w z h = ⊎-elim (λ q. rw q a) (w z) (among-cons z p xs h)
+
+-- a new page leaves each page at most once
+pub once-cons : (p : ℕ) (xs : List ℕ) → (Among p xs → ⊥) → ((z : ℕ) → times z xs ≤ 1) → (z : ℕ) → times z (p ∷ xs) ≤ 1
+unfolding times
+once-cons p xs out once z = go (eqb z p) refl
+  where
+    go : (b : Bool) → eqb z p ≡ b → pick b 1 0 + times z xs ≤ 1
+    go true q = rw (eqb-true z p q) (omega (arith, out))
+    go false q = omega (arith, once z)
 
 -- ---- the principle
 
@@ -71,6 +93,12 @@ none-without z (x ∷ xs) = go (eqb z x) refl (none-without z xs)
     go true q ih = ih
     go false q ih = rw q (omega arith)
 
+within-without : (y : ℕ) (xs ys : List ℕ) → Within xs (y ∷ ys) → Within (without y xs) ys
+within-without y xs ys w z h = ⊎-elim (λ q. absurd (gone q)) (λ k. k) (among-cons z y ys (w z (omega (arith, times-without z y xs))))
+  where
+    gone : z ≡ y → ⊥
+    gone q = omega (arith, none-without y xs, rw q at h)
+
 within-nil : (xs : List ℕ) → Within xs [] → length xs ≡ 0
 unfolding times
 within-nil [] w = refl
@@ -78,40 +106,11 @@ within-nil (x ∷ xs) w = absurd (omega (arith, w x (omega (arith, same-self x))
 
 -- a list with each page at most c times, all of them among ys, is at most c times as long as ys
 pub pigeonhole : (c : ℕ) (xs ys : List ℕ) → ((z : ℕ) → times z xs ≤ c) → Within xs ys → length xs ≤ c * length ys
-unfolding times
 pigeonhole c xs [] few w = omega (arith, within-nil xs w)
 pigeonhole c xs (y ∷ ys) few w =
-    omega (arith, few y, length-without y xs, pigeonhole c (without y xs) ys (λ z. omega (arith, few z, times-without z y xs)) rest)
-  where
-    go : (z : ℕ) (b : Bool) → eqb z y ≡ b → Among z (without y xs) → 0 < pick b 1 0 + times z ys → Among z ys
-    go z true q h k =
-        let e : times z (without y xs) ≡ 0 = subst (λ (x : ℕ). times x (without y xs) ≡ 0) (sym (eqb-true z y q)) (none-without y xs) in absurd (omega arith)
-    go z false q h k = omega arith
-
-    rest : Within (without y xs) ys
-    rest z h = go z (eqb z y) refl h (w z (omega (arith, times-without z y xs)))
-
--- ---- one page more
-
--- a new page leaves each page at most once
-pub once-cons : (p : ℕ) (xs : List ℕ) → (Among p xs → ⊥) → ((z : ℕ) → times z xs ≤ 1) → (z : ℕ) → times z (p ∷ xs) ≤ 1
-unfolding times
-once-cons p xs out once z = go (eqb z p) refl
-  where
-    go : (b : Bool) → eqb z p ≡ b → pick b 1 0 + times z xs ≤ 1
-    go true q = rw (eqb-true z p q) (omega (arith, out))
-    go false q = omega (arith, once z)
-
-pub among-cons : (z p : ℕ) (xs : List ℕ) → Among z (p ∷ xs) → (z ≡ p) ⊎ Among z xs
-unfolding times
-among-cons z p xs h = go (eqb z p) refl h
-  where
-    go : (b : Bool) → eqb z p ≡ b → 0 < pick b 1 0 + times z xs → (z ≡ p) ⊎ Among z xs
-    go true q h = inl (eqb-true z p q)
-    go false q h = inr (omega arith)
-
-pub within-cons : (p : ℕ) (xs ys : List ℕ) → Among p ys → Within xs ys → Within (p ∷ xs) ys
-within-cons p xs ys a w z h = ⊎-elim (λ q. rw q a) (w z) (among-cons z p xs h)
+    let rest : length (without y xs) ≤ c * length ys =
+    pigeonhole c (without y xs) ys (λ z. omega (arith, few z, times-without z y xs)) (within-without y xs ys w) in
+    omega (arith, few y, length-without y xs)
 
 -- ---- lists of held pages
 
@@ -126,7 +125,9 @@ times-set z [] i p = omega arith
 times-set z (x ∷ xs) zero p = omega arith
 times-set z (x ∷ xs) (suc i) p = omega (arith, times-set z xs i p)
 
-pub at-among : (xs : List ℕ) (i : ℕ) → i < length xs → Among (getD xs i 0) xs
+-- a page is among those held where it stands in a frame
+
+at-among : (xs : List ℕ) (i : ℕ) → i < length xs → Among (getD xs i 0) xs
 unfolding times
 at-among [] i h = absurd (omega arith)
 at-among (x ∷ xs) zero h = omega (arith, same-self x)
@@ -138,11 +139,11 @@ in-among z xs (i, h, e) = subst (λ (x : ℕ). Among x xs) e (at-among xs i h)
 pub among-in : (z : ℕ) (xs : List ℕ) → Among z xs → In z xs
 unfolding times
 among-in z [] h = absurd (omega arith)
-among-in z (x ∷ xs) h = go (eqb z x) refl h (among-in z xs)
+among-in z (x ∷ xs) h = go (among-cons z x xs h) (among-in z xs)
   where
-    go : (b : Bool) → eqb z x ≡ b → 0 < pick b 1 0 + times z xs → (Among z xs → In z xs) → In z (x ∷ xs)
-    go true q h ih = (0, omega arith, sym (eqb-true z x q))
-    go false q h ih = let (i, k, e) = ih (omega arith) in (suc i, omega arith, e)
+    go : (z ≡ x) ⊎ Among z xs → (Among z xs → In z xs) → In z (x ∷ xs)
+    go (inl q) ih = (0, omega arith, sym q)
+    go (inr k) ih = let (i, l, e) = ih k in (suc i, omega arith, e)
 
 -- where pages stand apart, each stands once
 pub apart-once : (xs : List ℕ) → Apart xs → (z : ℕ) → times z xs ≤ 1

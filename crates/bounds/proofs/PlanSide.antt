@@ -3,14 +3,14 @@
 -- A cover is a list of pages, among which are all that the plan holds. A request lengthens it by one page if the plan faults, and not otherwise; the page
 -- requested and the pages held after it are again among the cover. In order: the check, one request at a time; one request of an accepted plan.
 -- Assumes nothing.
-use mathlib.Core.Path.{_≡_, refl, sym, ap, _∙_}
+use mathlib.Core.Path.{_≡_, refl}
 use mathlib.Core.Bool.{Bool, true, false}
 use mathlib.Core.List.{List, [], _∷_, _++_}
-use Prim.Native.Nat.{ℕ, zero, suc, _+_, _≤_, _<_}
+use Prim.Native.Nat.{ℕ, suc, _+_, _≤_, _<_}
 use native.Mathlib.Omega.{arith}
 use native.Mathlib.Decide.{decLt}
 use lib.Dec.{eqb, ltb}
-use lib.ListN.{length, getD, set, length-set}
+use lib.ListN.{length, set, length-set}
 use lib.Seq.{getD-set-same}
 use borrow.Author.Tests.{ltb-true}
 use Rattle.paging.specs.Lists.{pick}
@@ -18,13 +18,12 @@ use Rattle.paging.specs.Rules.{mark}
 use Rattle.paging.specs.Plans.{mem, placeOf, judged, after, absent, through, checkFrom}
 use Rattle.paging.specs.declared.Gate.{Gate}
 use Rattle.paging.specs.declared.Gate.the-variants.{Open, No}
-use Rattle.paging.specs.declared.Answer.{Answer}
 use Rattle.paging.specs.declared.Answer.the-variants.{Faults, Refused}
 use Rattle.paging.specs.declared.Refusal.{Refusal}
 use Rattle.paging.specs.declared.Refusal.the-variants.{LentTooShort, PlanBroken}
 use Rattle.paging.proofs.Lists.{length-snoc}
 use Rattle.paging.proofs.Held.{mem-place, mem-in}
-use Rattle.bounds.proofs.Pigeonhole.{same, times, Among, Within, same-self, times-snoc, times-set, at-among, in-among}
+use Rattle.bounds.proofs.Pigeonhole.{same, times, Among, Within, same-self, times-snoc, times-set, in-among}
 
 pub refused-faults : (r : Refusal) (g : ℕ) → Refused r ≡ Faults g → ⊥
 refused-faults r g e = let k : _≡_ {A = ℕ} 0 1 = cc in omega arith

@@ -3,18 +3,17 @@
 -- Both drop the entry with the least key: the moment of its last request, or of its load. In order: what the two have in common; one request; the window;
 -- such a rule is frugal; the two rules.
 -- Assumes nothing.
-use mathlib.Core.Path.{_≡_, refl, sym, ap, _∙_, subst}
+use mathlib.Core.Path.{_≡_, refl, sym, _∙_}
 use mathlib.Core.Logic.{_⊎_, inl, inr, ⊎-elim}
 use mathlib.Core.Bool.{Bool, true, false}
 use mathlib.Core.List.{List, [], _∷_, _++_}
-use Prim.Native.Nat.{ℕ, zero, suc, _+_, _*_, _≤_, _<_}
+use Prim.Native.Nat.{ℕ, suc, _+_, _*_, _≤_, _<_}
 use native.Mathlib.Omega.{arith}
 use native.Mathlib.Decide.{decLt}
-use lib.Dec.{leb}
-use lib.ListN.{length, getD, set, length-set}
+use lib.ListN.{length, set, length-set}
 use lib.Seq.{getD-set-same, getD-append-seam}
 use borrow.Author.Tests.{leb-true}
-use Rattle.paging.specs.Lists.{pick, all}
+use Rattle.paging.specs.Lists.{pick}
 use Rattle.paging.specs.Rules.{lruDrops, fifoDrops, drops, chosen}
 use Rattle.paging.specs.Walk.{holds, frameOf, zeroEntry, entryAt, pages, loadedAt, renewed, next}
 use Rattle.paging.specs.declared.Entry.{Entry}
@@ -22,7 +21,7 @@ use Rattle.paging.specs.declared.Rule.{Rule}
 use Rattle.paging.specs.declared.Rule.the-variants.{Lru, Fifo}
 use Rattle.paging.proofs.Lists.{true≢false, all-at, length-snoc, getD-snoc-old, snoc-cases, set-cases}
 use Rattle.paging.proofs.Choice.{chosen-below, chosen-drops}
-use Rattle.paging.proofs.Held.{In, Apart, absent-in, apart-nil}
+use Rattle.paging.proofs.Held.{Apart, absent-in, apart-nil}
 use Rattle.paging.proofs.Frames.{pages-length, pages-at, mem-pages, held-frame, Ways, ways, next-hit, next-room, next-full, next-apart, next-size}
 use Rattle.bounds.proofs.Pigeonhole.{times, Among, Within, pigeonhole, once-cons, among-cons, within-cons, among-in, apart-once}
 use Rattle.bounds.proofs.Phases.{missed, Frugal}

@@ -11,7 +11,7 @@ use Rattle.paging.specs.Rules.{mark}
 use Rattle.paging.specs.Walk.{faults}
 use Rattle.paging.specs.Plans.{check}
 use Rattle.paging.specs.declared.Rule.{Rule}
-use Rattle.paging.specs.declared.Rule.the-variants.{Lru, Fifo, Lru2}
+use Rattle.paging.specs.declared.Rule.the-variants.{Lru, Fifo}
 use Rattle.paging.specs.declared.Answer.the-variants.{Faults}
 
 -- ---- the statement
