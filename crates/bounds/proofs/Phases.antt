@@ -65,7 +65,8 @@ left-step rule n t p ps es = go (ways n p es)
 
 -- q + 1 faults, at most c to a page, are of more than q / c pages, which are at most n
 parted : (q c n : ℕ) → 1 ≤ c → q < c * n → (c * (q / c) < suc q) × (suc q ≤ c * suc (q / c)) × (q / c ≤ n)
-parted q c n one part = (omega (arith, parts), omega (arith, parts, mod-lt q one), elim (decLe (q / c) n) [ yes h ↦ h | no h ↦ absurd (over (omega arith)) ])
+parted q c n one part =
+    (omega (arith, parts), omega (arith, parts, mod-lt q one), elim (decLe (q / c) n) [ yes h ↦ h | no h ↦ absurd (over (omega arith)) ])
   where
     parts : q / c * c + q % c ≡ q
     parts = div-add-mod' q c
@@ -199,24 +200,29 @@ module _ (rule : Rule) (n c : ℕ) (fr : Frugal rule n c) (m : ℕ) where
 
   -- ---- the bound
 
-  -- THE BOUND, over c: (n - m + 1) times the rule's faults is at most c * n times the plan's
-  pub frugal-bound : (trace words : List ℕ) (g : ℕ) → 1 ≤ c → 1 ≤ m → m ≤ n → check m trace words ≡ Faults g
-      → (n - m + 1) * faults rule n trace ≤ c * n * g
-  unfolding faults check
-  frugal-bound trace words g one low high accepted = go (faults rule n trace) refl
-    where
-      pos : 1 ≤ c * n
-      pos = omega (arith, mul-le-mul-right n one)
+  module _ (trace words : List ℕ) (g : ℕ) (one : 1 ≤ c) (low : 1 ≤ m) (high : m ≤ n) (accepted : check m trace words ≡ Faults g) where
+    full-phase : 1 ≤ c * n
+    full-phase = omega (arith, mul-le-mul-right n one)
 
-      go : (x : ℕ) → faults rule n trace ≡ x → (n - m + 1) * x ≤ c * n * g
-      go zero all = omega arith
-      go (suc x) all =
-          let q : ℕ = x % (c * n) in
-          let k : ℕ = x / (c * n) in
-          let e : ℕ = q / c in
-          let parts : k * (c * n) + q ≡ x = div-add-mod' x (c * n) in
-          let (below, above, top) = parted q c n one (mod-lt x pos) in
-          let h : suc e + k * (n - m + 1) + 0 ≤ 0 + g =
-          claim (n - m + 1) (omega arith) pos trace words 0 0 [] [] 0 0 0 e q k g phase-first (omega arith) top (omega arith) accepted in
-          let z : (n - m + 1) * (suc q + k * (c * n)) ≤ c * n * g = weighed (n - m + 1) n c q e k g (omega arith) above (omega arith) in
-          rw (← parts) (omega arith)
+    -- q + 1 faults in the first phase, and k phases after it
+    phases-bound : (q k : ℕ) → q < c * n → faults rule n trace ≡ suc q + k * (c * n) → (n - m + 1) * (suc q + k * (c * n)) ≤ c * n * g
+    unfolding faults check
+    phases-bound q k part all =
+        let (below, above, top) = parted q c n one part in
+        let h : suc (q / c) + k * (n - m + 1) + 0 ≤ 0 + g = walked below top in
+        weighed (n - m + 1) n c q (q / c) k g (omega arith) above (omega arith)
+      where
+        walked : c * (q / c) < suc q → q / c ≤ n → suc (q / c) + k * (n - m + 1) + 0 ≤ 0 + g
+        walked below top =
+            claim (n - m + 1) (omega arith) full-phase trace words 0 0 [] [] 0 0 0 (q / c) q k g phase-first (omega arith) top all accepted
+
+    -- THE BOUND, over c: (n - m + 1) times the rule's faults is at most c * n times the plan's
+    pub frugal-bound : (n - m + 1) * faults rule n trace ≤ c * n * g
+    frugal-bound = go (faults rule n trace) refl
+      where
+        go : (x : ℕ) → faults rule n trace ≡ x → (n - m + 1) * x ≤ c * n * g
+        go zero all = omega arith
+        go (suc x) all =
+            let parts : x / (c * n) * (c * n) + x % (c * n) ≡ x = div-add-mod' x (c * n) in
+            let h : suc x ≡ suc (x % (c * n)) + x / (c * n) * (c * n) = omega arith in
+            rw h (phases-bound (x % (c * n)) (x / (c * n)) (mod-lt x full-phase) (all ∙ h))

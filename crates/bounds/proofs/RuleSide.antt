@@ -21,7 +21,7 @@ use Rattle.paging.specs.declared.Rule.{Rule}
 use Rattle.paging.specs.declared.Rule.the-variants.{Lru, Fifo}
 use Rattle.paging.proofs.Lists.{true≢false, all-at, length-snoc, getD-snoc-old, snoc-cases, set-cases}
 use Rattle.paging.proofs.Choice.{chosen-below, chosen-drops}
-use Rattle.paging.proofs.Held.{Apart, absent-in, apart-nil}
+use Rattle.paging.proofs.Held.{In, Apart, absent-in, apart-nil}
 use Rattle.paging.proofs.Frames.{pages-length, pages-at, mem-pages, held-frame, Ways, ways, next-hit, next-room, next-full, next-apart, next-size}
 use Rattle.bounds.proofs.Pigeonhole.{times, Among, Within, pigeonhole, once-cons, among-cons, within-cons, among-in, apart-once}
 use Rattle.bounds.proofs.Phases.{missed, Frugal}
@@ -36,13 +36,13 @@ pub record Aged (rule : Rule) (key : Entry → ℕ) : Type 0 where
 
 module _ (rule : Rule) (key : Entry → ℕ) (aged : Aged rule key) (n : ℕ) (pos : 1 ≤ n) where
   -- so it is at every moment t of a walk from empty
-  pub record Sound (t : ℕ) (es : List Entry) : Type 0 where
-    pub apart : Apart (pages es)
-    pub size : length es ≤ n
-    pub past : (i : ℕ) → i < length es → key (entryAt es i) < t
+  record Sound (t : ℕ) (es : List Entry) : Type 0 where
+    apart : Apart (pages es)
+    size : length es ≤ n
+    past : (i : ℕ) → i < length es → key (entryAt es i) < t
 
   -- page z is held, with a key not before moment s
-  abbrev pub Since : ℕ → ℕ → List Entry → Type 0
+  abbrev Since : ℕ → ℕ → List Entry → Type 0
   Since s z es = (i : ℕ) × (i < length es) × (entryAt es i .page .0 ≡ z) × (s ≤ key (entryAt es i))
 
   -- ---- one request, of page p at moment t
@@ -50,7 +50,9 @@ module _ (rule : Rule) (key : Entry → ℕ) (aged : Aged rule key) (n : ℕ) (p
   module _ (t p : ℕ) (rest : List ℕ) (es : List Entry) (good : Sound t es) where
     -- each entry is that of page p, with a key not after t, or an old one
     abbrev Fits : List Entry → Type 0
-    Fits fs = (i : ℕ) → i < length fs → ((entryAt fs i .page .0 ≡ p) × (key (entryAt fs i) ≤ t)) ⊎ ((i < length es) × (entryAt fs i ≡ entryAt es i))
+    Fits fs =
+        (i : ℕ) → i < length fs
+        → ((entryAt fs i .page .0 ≡ p) × (key (entryAt fs i) ≤ t)) ⊎ ((i < length es) × (entryAt fs i ≡ entryAt es i))
 
     next-fits : Fits (next rule n t p rest es)
     next-fits = go (ways n p es)
@@ -82,18 +84,20 @@ module _ (rule : Rule) (key : Entry → ℕ) (aged : Aged rule key) (n : ℕ) (p
     next-loaded : holds p es ≡ false → Since t p (next rule n t p rest es)
     next-loaded q = go (ways n p es)
       where
+        stands : (fs : List Entry) (i : ℕ) → i < length fs → entryAt fs i ≡ loadedAt t p → Since t p fs
+        stands fs i h e = (i, h, rw e refl, rw e (omega (arith, aged .new t p)))
+
         go : Ways n p es → Since t p (next rule n t p rest es)
         go (inl h) = absurd (true≢false (sym h ∙ q))
         go (inr (inl (h, k))) =
             rw (next-room rule n t p rest es h k)
-            (let e : entryAt (es ++ (loadedAt t p ∷ [])) (length es) ≡ loadedAt t p = getD-append-seam es (loadedAt t p) [] zeroEntry in
-            (length es, omega (arith, length-snoc zeroEntry es (loadedAt t p)), rw e refl, rw e (omega (arith, aged .new t p))))
+            (stands (es ++ (loadedAt t p ∷ [])) (length es) (omega (arith, length-snoc zeroEntry es (loadedAt t p)))
+            (getD-append-seam es (loadedAt t p) [] zeroEntry))
         go (inr (inr (h, k))) =
+            let below : chosen rule rest es < length es = chosen-below rule rest es (omega arith) in
             rw (next-full rule n t p rest es h k)
-            (let below : chosen rule rest es < length es = chosen-below rule rest es (omega arith) in
-            let e : entryAt (set es (chosen rule rest es) (loadedAt t p)) (chosen rule rest es) ≡ loadedAt t p =
-            getD-set-same es (chosen rule rest es) (loadedAt t p) zeroEntry below in
-            (chosen rule rest es, omega (arith, length-set es (chosen rule rest es) (loadedAt t p)), rw e refl, rw e (omega (arith, aged .new t p))))
+            (stands (set es (chosen rule rest es) (loadedAt t p)) (chosen rule rest es) (omega (arith, length-set es (chosen rule rest es) (loadedAt t p)))
+            (getD-set-same es (chosen rule rest es) (loadedAt t p) zeroEntry below))
 
     -- what is held with a key not before s stays so, if what is dropped has a key before s
     next-since : (s z : ℕ) → s ≤ t → (holds p es ≡ false → n ≤ length es → key (entryAt es (chosen rule rest es)) < s)
@@ -103,7 +107,8 @@ module _ (rule : Rule) (key : Entry → ℕ) (aged : Aged rule key) (n : ℕ) (p
         stored : (j : ℕ) (x : Entry) → (i ≡ j → (x .page .0 ≡ z) × (s ≤ key x)) → Since s z (set es j x)
         stored j x new =
             let l : i < length (set es j x) = omega (arith, length-set es j x) in
-            ⊎-elim (λ y. (i, l, rw (y .1) (new (y .0) .0), rw (y .1) (new (y .0) .1))) (λ y. (i, l, rw (y .2) e, rw (y .2) k)) (set-cases zeroEntry es j x i l)
+            ⊎-elim (λ y. (i, l, rw (y .1) (new (y .0) .0), rw (y .1) (new (y .0) .1))) (λ y. (i, l, rw (y .2) e, rw (y .2) k))
+            (set-cases zeroEntry es j x i l)
 
         touched : (j : ℕ) → i ≡ j → (entryAt es j .page .0 ≡ z) × (s ≤ key (renewed t (entryAt es j)))
         touched j q = rw (← q) (e, ⊎-elim (λ x. omega arith) (λ x. omega arith) (aged .again t (entryAt es i)))
@@ -125,14 +130,14 @@ module _ (rule : Rule) (key : Entry → ℕ) (aged : Aged rule key) (n : ℕ) (p
 
   -- A window that began at moment s, with faults on the pages of `faulted`: each of them once, and each still held with a key not before s.
   -- What is held with such a key was requested in the window.
-  pub record Window (t : ℕ) (cov : List ℕ) (r : ℕ) (es : List Entry) : Type 0 where
-    pub s : ℕ
-    pub begun : s ≤ t
-    pub faulted : List ℕ
-    pub count : length faulted ≡ r
-    pub once : (z : ℕ) → times z faulted ≤ 1
-    pub held : (z : ℕ) → Among z faulted → Since s z es
-    pub asked : (i : ℕ) → i < length es → s ≤ key (entryAt es i) → Among (entryAt es i .page .0) cov
+  record Window (t : ℕ) (cov : List ℕ) (r : ℕ) (es : List Entry) : Type 0 where
+    s : ℕ
+    begun : s ≤ t
+    faulted : List ℕ
+    count : length faulted ≡ r
+    once : (z : ℕ) → times z faulted ≤ 1
+    held : (z : ℕ) → Among z faulted → Since s z es
+    asked : (i : ℕ) → i < length es → s ≤ key (entryAt es i) → Among (entryAt es i .page .0) cov
 
   window-opens : (t : ℕ) (cov : List ℕ) (es : List Entry) → Sound t es → Window t cov 0 es
   unfolding times
@@ -163,14 +168,14 @@ module _ (rule : Rule) (key : Entry → ℕ) (aged : Aged rule key) (n : ℕ) (p
       within : Within (win .faulted) cov
       within z h = let (i, l, e, k) = win .held z h in rw (← e) (win .asked i l k)
 
-  -- a page that was not held is not among the pages held
-  out : (p : ℕ) (es : List Entry) → holds p es ≡ false → Among p (pages es) → ⊥
-  out p es q h = absent-in p (pages es) (mem-pages p es ∙ q) (among-in p (pages es) h)
-
   module _ (t p r : ℕ) (rest cov : List ℕ) (es : List Entry) (good : Sound t es) (asks : Among p cov) (short : length cov ≤ n) (win : Window t cov r es) where
+    stranger : holds p es ≡ false → In p (pages es) → ⊥
+    stranger q = absent-in p (pages es) (mem-pages p es ∙ q)
+
     -- what is dropped has a key from before the window: else n pages held and the one that comes would all be among n
     dropped-before : holds p es ≡ false → n ≤ length es → key (entryAt es (chosen rule rest es)) < win .s
-    dropped-before q full = elim (decLt (key (entryAt es (chosen rule rest es))) (win .s)) [ yes h ↦ h | no h ↦ absurd (crowd (omega arith)) ]
+    dropped-before q full =
+        elim (decLt (key (entryAt es (chosen rule rest es))) (win .s)) [ yes h ↦ h | no h ↦ absurd (crowd (omega arith)) ]
       where
         within : win .s ≤ key (entryAt es (chosen rule rest es)) → Within (pages es) cov
         within h z k =
@@ -178,46 +183,41 @@ module _ (rule : Rule) (key : Entry → ℕ) (aged : Aged rule key) (n : ℕ) (p
             let below : i < length es = omega (arith, pages-length es) in
             rw (← e, pages-at es i) (win .asked i below (omega (arith, aged .least rest es i below)))
 
-        crowd : win .s ≤ key (entryAt es (chosen rule rest es)) → ⊥
-        crowd h =
-            omega (
-              arith,
-              pages-length es,
-              pigeonhole 1 (p ∷ pages es) cov (once-cons p (pages es) (out p es q) (apart-once (pages es) (good .apart))) (within-cons p (pages es) cov asks (within h)),
-            )
+        once : (z : ℕ) → times z (p ∷ pages es) ≤ 1
+        once = once-cons p (pages es) (λ h. stranger q (among-in p (pages es) h)) (apart-once (pages es) (good .apart))
 
-    stays : (z : ℕ) → Since (win .s) z es → Since (win .s) z (next rule n t p rest es)
-    stays z = next-since t p rest es good (win .s) z (win .begun) dropped-before
+        crowd : win .s ≤ key (entryAt es (chosen rule rest es)) → ⊥
+        crowd h = omega (arith, pages-length es, pigeonhole 1 (p ∷ pages es) cov once (within-cons p (pages es) cov asks (within h)))
+
+    since-stays : (z : ℕ) → Since (win .s) z es → Since (win .s) z (next rule n t p rest es)
+    since-stays z = next-since t p rest es good (win .s) z (win .begun) dropped-before
 
     asked-next : (i : ℕ) → i < length (next rule n t p rest es) → win .s ≤ key (entryAt (next rule n t p rest es) i)
         → Among (entryAt (next rule n t p rest es) i .page .0) cov
-    asked-next i h k = ⊎-elim (λ x. rw (x .0) asks) (λ x. rw (x .1) (win .asked i (x .0) (rw (x .1) at k))) (next-fits t p rest es good i h)
+    asked-next i h k =
+        ⊎-elim (λ x. rw (x .0) asks) (λ x. rw (x .1) (win .asked i (x .0) (rw (x .1) at k))) (next-fits t p rest es good i h)
 
     window-steps : Window (suc t) cov (missed p es + r) (next rule n t p rest es)
     window-steps = go (holds p es) refl
       where
+        -- the window with these faults
+        on : (l : List ℕ) → ((z : ℕ) → times z l ≤ 1) → ((z : ℕ) → Among z l → Since (win .s) z (next rule n t p rest es))
+            → (r' : ℕ) → length l ≡ r' → Window (suc t) cov r' (next rule n t p rest es)
+        on l once held r' count =
+            record { s = win .s; begun = omega (arith, win .begun); faulted = l; count = count; once = once; held = held; asked = asked-next }
+
+        held : holds p es ≡ false → (z : ℕ) → (z ≡ p) ⊎ Among z (win .faulted) → Since (win .s) z (next rule n t p rest es)
+        held q z (inl e) = rw e (let (i, l, g, k) = next-loaded t p rest es good q in (i, l, g, omega (arith, win .begun)))
+        held q z (inr h) = since-stays z (win .held z h)
+
+        new : holds p es ≡ false → Among p (win .faulted) → ⊥
+        new q h = let (i, l, e, k) = win .held p h in stranger q (i, omega (arith, pages-length es), pages-at es i ∙ e)
+
         go : (b : Bool) → holds p es ≡ b → Window (suc t) cov (pick b 0 1 + r) (next rule n t p rest es)
-        go true q = record {
-          s = win .s;
-          begun = omega (arith, win .begun);
-          faulted = win .faulted;
-          count = omega (arith, win .count);
-          once = win .once;
-          held = λ z h. stays z (win .held z h);
-          asked = asked-next;
-        }
-        go false q = record {
-          s = win .s;
-          begun = omega (arith, win .begun);
-          faulted = p ∷ win .faulted;
-          count = omega (arith, win .count);
-          once = once-cons p (win .faulted) (λ h. since-held (win .held p h)) (win .once);
-          held = λ z h. ⊎-elim (λ e. rw e (let (i, l, g, k) = next-loaded t p rest es good q in (i, l, g, omega (arith, win .begun)))) (λ h. stays z (win .held z h)) (among-cons z p (win .faulted) h);
-          asked = asked-next;
-        }
-          where
-            since-held : Since (win .s) p es → ⊥
-            since-held (i, l, e, k) = absent-in p (pages es) (mem-pages p es ∙ q) (i, omega (arith, pages-length es), pages-at es i ∙ e)
+        go true q = on (win .faulted) (win .once) (λ z h. since-stays z (win .held z h)) (0 + r) (omega (arith, win .count))
+        go false q =
+            on (p ∷ win .faulted) (once-cons p (win .faulted) (new q) (win .once)) (λ z h. held q z (among-cons z p (win .faulted) h))
+            (1 + r) (omega (arith, win .count))
 
   -- ---- such a rule is frugal
 

@@ -44,13 +44,9 @@ sweep = 1 ∷ 2 ∷ 3 ∷ 4 ∷ 1 ∷ 2 ∷ 3 ∷ 4 ∷ []
 pub sweepPlan : List ℕ
 sweepPlan = mark ∷ 1 ∷ 2 ∷ 3 ∷ 4 ∷ 1 ∷ 2 ∷ 3 ∷ []
 
-pub sweep-accepted : check 1 sweep sweepPlan ≡ Faults 8
-unfolding check sweep sweepPlan
-sweep-accepted = refl
-
-pub bound-is-met : ForBoth (λ rule. (3 - 1 + 1) * faults rule 3 sweep ≡ 3 * 8)
-unfolding faults sweep
-bound-is-met = (refl, refl)
+pub bound-is-met : (check 1 sweep sweepPlan ≡ Faults 8) × ForBoth (λ rule. (3 - 1 + 1) * faults rule 3 sweep ≡ 3 * 8)
+unfolding check faults sweep sweepPlan
+bound-is-met = (refl, (refl, refl))
 
 pub sweep-sharp : ForBoth (λ rule. Sharp 3 1 (faults rule 3 sweep) 8)
 unfolding faults sweep
@@ -60,7 +56,7 @@ pub sweep-demanded : ForBoth (λ rule. Demanded 3 1 (faults rule 3 sweep) 8)
 unfolding faults sweep
 sweep-demanded = (omega arith, omega arith)
 
--- ---- two pages in turn: a plan may have no more frames than the cache
+-- ---- two pages in turn: a plan with more frames than the cache can do far better, so m goes no further than n
 
 pub turns : List ℕ
 turns = 1 ∷ 2 ∷ 1 ∷ 2 ∷ 1 ∷ 2 ∷ []
@@ -68,18 +64,14 @@ turns = 1 ∷ 2 ∷ 1 ∷ 2 ∷ 1 ∷ 2 ∷ []
 pub turnsPlan : List ℕ
 turnsPlan = mark ∷ mark ∷ mark ∷ mark ∷ mark ∷ mark ∷ []
 
-pub turns-accepted : check 2 turns turnsPlan ≡ Faults 2
-unfolding check turns turnsPlan
-turns-accepted = refl
-
-pub turns-beyond : ForBoth (λ rule. Demanded 1 2 (faults rule 1 turns) 2 → ⊥)
-unfolding faults turns
-turns-beyond = (λ h. omega arith, λ h. omega arith)
+pub turns-beyond : (check 2 turns turnsPlan ≡ Faults 2) × ForBoth (λ rule. Demanded 1 2 (faults rule 1 turns) 2 → ⊥)
+unfolding check faults turns turnsPlan
+turns-beyond = (refl, (λ h. omega arith, λ h. omega arith))
 
 pub turns-outside : Range 2 1 → ⊥
 turns-outside h = omega arith
 
--- ---- two pages in turn beside one that is never asked for again: the rules that the bound names let go of it
+-- ---- two pages in turn beside one that is done with: a rule that would not let go of it is none of these
 
 pub stale : List ℕ
 stale = 9 ∷ 9 ∷ 1 ∷ 2 ∷ 1 ∷ 2 ∷ 1 ∷ 2 ∷ 1 ∷ 2 ∷ 1 ∷ 2 ∷ []
@@ -87,10 +79,6 @@ stale = 9 ∷ 9 ∷ 1 ∷ 2 ∷ 1 ∷ 2 ∷ 1 ∷ 2 ∷ 1 ∷ 2 ∷ 1 ∷ 2 ∷ 
 pub stalePlan : List ℕ
 stalePlan = mark ∷ mark ∷ mark ∷ 9 ∷ mark ∷ mark ∷ mark ∷ mark ∷ mark ∷ mark ∷ mark ∷ mark ∷ []
 
-pub stale-accepted : check 2 stale stalePlan ≡ Faults 3
-unfolding check stale stalePlan
-stale-accepted = refl
-
-pub stale-demanded : ForBoth (λ rule. Demanded 2 2 (faults rule 2 stale) 3)
-unfolding faults stale
-stale-demanded = (omega arith, omega arith)
+pub stale-demanded : (check 2 stale stalePlan ≡ Faults 3) × ForBoth (λ rule. Demanded 2 2 (faults rule 2 stale) 3)
+unfolding check faults stale stalePlan
+stale-demanded = (refl, (omega arith, omega arith))
