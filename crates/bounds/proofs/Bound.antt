@@ -1,7 +1,8 @@
 -- DEMAND 3: "take any accepted list of requests, a cache of n frames, any m from 1 to n, and any plan accepted for m frames on that list, all starting
 -- empty. Then (n - m + 1) times the LRU faults with n frames is at most n times the plan's faults, plus n times m. The same holds for FIFO."
 --
--- The statement is specs/Bound.antt. After D. Sleator and R. Tarjan, "Amortized efficiency of list update and paging rules", 1985.
+-- The statement is specs/Bound.antt; proofs/Phases.antt has it with a factor c, for any frugal rule.
+-- After D. Sleator and R. Tarjan, "Amortized efficiency of list update and paging rules", 1985.
 -- Assumes nothing.
 use Prim.Native.Nat.{ℕ}
 use native.Mathlib.Omega.{arith}
@@ -22,10 +23,9 @@ pub sharply-bounded-by-any-plan : ForBoth (Bound Sharp)
 sharply-bounded-by-any-plan =
     (aged-sharp Lru (λ (e : Entry). e .last .0) lru-aged, aged-sharp Fifo (λ (e : Entry). e .loaded .0) fifo-aged)
 
+sharp-demanded : (rule : Rule) → Bound Sharp rule → Bound Demanded rule
+sharp-demanded rule sharp n m trace words g range accepted = omega (arith, sharp n m trace words g range accepted)
+
 -- THE DEMAND: it is at most n times the plan's, plus n times m
 pub bounded-by-any-plan : ForBoth (Bound Demanded)
-bounded-by-any-plan =
-    let (lru, fifo) = sharply-bounded-by-any-plan in (
-      λ n m trace words g range accepted. omega (arith, lru n m trace words g range accepted),
-      λ n m trace words g range accepted. omega (arith, fifo n m trace words g range accepted),
-    )
+bounded-by-any-plan = let (lru, fifo) = sharply-bounded-by-any-plan in (sharp-demanded Lru lru, sharp-demanded Fifo fifo)

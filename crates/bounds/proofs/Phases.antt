@@ -1,7 +1,8 @@
 -- The bound, for any rule that is frugal: in a stretch of requests of at most n different pages it faults at most c times a page.
 --
--- The trace falls into phases. A phase ends at a fault of the rule; each but the first holds c * n of them, the first what is left over. The rule and the
--- plan are walked together, once, over the trace. In order: what is asked of a rule; the state of a phase; one request; all of them; the bound.
+-- The trace falls into phases. A phase ends at a fault of the rule; each but the first has c * n of them, the first what is left over, at least one. The rule
+-- and the plan are walked together, once, over the trace. In order: what is asked of a rule; its faults; arithmetic; the state of a phase; one request; all
+-- of them; the bound.
 -- Assumes nothing.
 use mathlib.Core.Path.{_≡_, refl, sym, _∙_}
 use mathlib.Core.Logic.{inl, inr}
