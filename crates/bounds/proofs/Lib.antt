@@ -1,0 +1,5 @@
+pub mod Pigeonhole
+pub mod PlanSide
+pub mod Phases
+pub mod RuleSide
+pub mod Bound
