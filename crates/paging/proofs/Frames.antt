@@ -2,7 +2,7 @@
 --
 -- In order: the three ways of one request, as equations; what they do to the held pages; the same at every moment of a walk from empty.
 -- Assumes nothing.
-use mathlib.Core.Path.{_≡_, refl, sym, ap, _∙_}
+use mathlib.Core.Path.{_≡_, refl, sym, ap, _∙_, subst}
 use mathlib.Core.Logic.{_⊎_, inl, inr, ⊎-elim, _↔_}
 use mathlib.Core.Bool.{Bool, true, false}
 use mathlib.Core.List.{List, [], _∷_, _++_, map}
@@ -137,7 +137,7 @@ module _ (rule : Rule) (n t p : ℕ) (rest : List ℕ) (es : List Entry) where
 abbrev pub Became : ℕ → ℕ → List Entry → ℕ → Entry → Type 0
 Became t p es i e =
     ((holds p es ≡ false) × (e ≡ loadedAt t p))
-    ⊎ ((holds p es ≡ true) × (frameOf p es < length es) × (entryAt es (frameOf p es) .page .0 ≡ p) × (e ≡ renewed t (entryAt es (frameOf p es))))
+    ⊎ ((holds p es ≡ true) × (i < length es) × (entryAt es i .page .0 ≡ p) × (e ≡ renewed t (entryAt es i)))
     ⊎ ((i < length es) × (entryAt es i .page .0 ≡ p → ⊥) × (e ≡ entryAt es i))
 
 -- where a page isn't held, no frame has it
@@ -160,7 +160,16 @@ module _ (rule : Rule) (n t p : ℕ) (rest : List ℕ) (es : List Entry) where
           let e : next rule n t p rest es ≡ set es (frameOf p es) (renewed t (entryAt es (frameOf p es))) = next-hit rule n t p rest es q in
           let (k, g) = held-frame p es q in
           rw e
-          (⊎-elim (λ w. inr (inl (q, k, g, w .1))) (λ w. inr (inr (w .1, (λ x. w .0 (frame-only p es a q i (w .1) x)), w .2)))
+          (⊎-elim
+          (λ w.
+          inr
+          (inl (
+            q,
+            subst (λ (f : ℕ). f < length es) (sym (w .0)) k,
+            ap (λ (f : ℕ). entryAt es f .page .0) (w .0) ∙ g,
+            w .1 ∙ ap (λ (f : ℕ). renewed t (entryAt es f)) (sym (w .0)),
+          )))
+          (λ w. inr (inr (w .1, (λ x. w .0 (frame-only p es a q i (w .1) x)), w .2)))
           (set-cases zeroEntry es (frameOf p es) (renewed t (entryAt es (frameOf p es))) i (rw e at h)))
 
       room : holds p es ≡ false → length es < n → Became t p es i (entryAt (next rule n t p rest es) i)
