@@ -1,3 +1,4 @@
 pub mod Record
 pub mod Sound
 pub mod Feed
+pub mod Step

@@ -54,6 +54,10 @@ named Unknown = Lru
 abbrev pub ruleOf : Cache → Rule
 ruleOf c = named (ruleNumbered (c .rule))
 
+-- entries in use, with blank ones up to the last frame
+abbrev pub padded : List Entry → List Entry
+padded es = es ++ replicate (frameLimit - length es) blankEntry
+
 -- the record c with these entries in use, one request later
 abbrev pub holding : Cache → List Entry → Cache
 holding c es =
@@ -62,7 +66,7 @@ holding c es =
       frames = c .frames;
       clock = c .clock + 1;
       held = length es;
-      entries = es ++ replicate (frameLimit - length es) blankEntry;
+      entries = padded es;
     }
 
 -- ---- Fresh

@@ -1,8 +1,16 @@
 // The cache record of document 01: its limits, the blank record, the empty cache of a given size, and the inner step that serves one request.
 // Soundness is in sound.rt, Feed in feed.rt. Everything here that asks something of its caller is private.
 ghost use mathlib.Core.Path.{_≡_};
+ghost use mathlib.Core.List.{[]};
+ghost use mathlib.Core.Bool.{true, false};
+ghost use Prim.Native.Nat.{_≤_, _<_};
 ghost use Rattle.paging.specs.Calls.{outside};
-ghost use Rattle.cache.specs.Record.{blankEntry, blankCache, emptyCache, feedable, freshOf};
+ghost use Rattle.paging.specs.Rules.{chosen};
+ghost use Rattle.paging.specs.Walk.{holds, loadedAt, renewed};
+ghost use Rattle.cache.specs.Record.{blankEntry, blankCache, emptyCache, feedable, freshOf, heldOf, heldEntries, ruleOf};
+ghost use Rattle.cache.specs.Sound.{sound};
+ghost use Rattle.cache.specs.Feed.{served};
+ghost use Rattle.cache.specs.Step.{foundIn, keyOf, placed};
 use paging::Entry;
 use paging::Frame;
 use paging::Gate;
@@ -45,6 +53,12 @@ pub struct Fed {
     pub next: Cache,
 }
 
+// Where a page is held.
+enum Found {
+    At(Frame),
+    Nothing,
+}
+
 fn blank_entry() -> Entry
     ensures { λ r. ⌜ r ≡ blankEntry ⌝ }
 {
@@ -54,6 +68,49 @@ fn blank_entry() -> Entry
         last: Moment(paging::MARK),
         earlier: Moment(paging::MARK),
     }
+}
+
+// A page loaded at this moment: this request is its first.
+fn loaded_at(now: Moment, page: Page) -> Entry
+    ensures { λ r. ⌜ r ≡ loadedAt (now .0) (page .0) ⌝ }
+{
+    Entry {
+        page: page,
+        loaded: now,
+        last: now,
+        earlier: Moment(paging::MARK),
+    }
+}
+
+// A held page requested again at this moment.
+fn renewed(e: Entry, now: Moment) -> Entry
+    ensures { λ r. ⌜ r ≡ renewed (now .0) e ⌝ }
+{
+    let page = e.page;
+    let loaded = e.loaded;
+    let before = e.last;
+    Entry {
+        page: page,
+        loaded: loaded,
+        last: now,
+        earlier: before,
+    }
+}
+
+// The least of these is the entry to drop; moments of a sound record are below the request limit.
+fn key(e: Entry, rule: u32) -> u64
+    ensures { λ r. ⌜ r ≡ keyOf rule e ⌝ }
+{
+    if rule == 1 {
+        return e.last.0 as u64;
+    }
+    if rule == 2 {
+        return e.loaded.0 as u64;
+    }
+    if e.earlier.0 == paging::MARK {
+        return e.last.0 as u64;
+    }
+    8000 + e.earlier.0 as u64
 }
 
 // Whether a record may have the rule.
@@ -126,5 +183,55 @@ impl Cache {
             gate: Gate::Open,
             cache: Cache::empty(rule, frames),
         }
+    }
+
+    // The frame that holds a page.
+    fn find(self, page: Page) -> Found
+        requires { ⌜ heldOf self ≤ 256 ⌝ }
+        ensures { λ r. ⌜ r ≡ foundIn (page .0) (heldEntries self) ⌝ }
+    {
+        let held = self.held as usize;
+        let mut i: usize = 0;
+        while i < held {
+            if self.entries[i].page.0 == page.0 {
+                return Found::At(Frame(i as u32));
+            }
+            i += 1;
+        }
+        Found::Nothing
+    }
+
+    // The frame whose page the rule drops: the one with the least key.
+    fn victim(self) -> Frame
+        requires { ⌜ (sound self ≡ true) × (0 < heldOf self) ⌝ }
+        ensures { λ r. ⌜ r .0 ≡ chosen (ruleOf self) [] (heldEntries self) ⌝ }
+    {
+        let rule = self.rule;
+        let held = self.held as usize;
+        let mut best: usize = 0;
+        let mut least = key(self.entries[0], rule);
+        let mut i: usize = 1;
+        while i < held {
+            let k = key(self.entries[i], rule);
+            if k < least {
+                best = i;
+                least = k;
+            }
+            i += 1;
+        }
+        Frame(best as u32)
+    }
+
+    // The record one request later, with an entry written into a frame.
+    fn place(self, frame: Frame, entry: Entry, held: u32) -> Cache
+        requires { ⌜ (frame .0 < 256) × (self .clock < 8000) ⌝ }
+        ensures { λ r. ⌜ r ≡ placed self (frame .0) entry held ⌝ }
+    {
+        let at = frame.0 as usize;
+        let mut next = self;
+        next.entries[at] = entry;
+        next.clock = self.clock + 1;
+        next.held = held;
+        next
     }
 }

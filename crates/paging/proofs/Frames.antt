@@ -121,6 +121,15 @@ module _ (rule : Rule) (n t p : ℕ) (rest : List ℕ) (es : List Entry) where
       go (inr (inl (q, h))) = rw (next-room q h) (omega (arith, length-snoc zeroEntry es (loadedAt t p)))
       go (inr (inr (q, h))) = rw (next-full q h) (simp length-set k)
 
+  -- at most one page more is held
+  pub next-grows : length (next rule n t p rest es) ≤ suc (length es)
+  next-grows = go (ways n p es)
+    where
+      go : Ways n p es → length (next rule n t p rest es) ≤ suc (length es)
+      go (inl q) = rw (next-hit q) (omega (arith, length-set es (frameOf p es) (renewed t (entryAt es (frameOf p es)))))
+      go (inr (inl (q, h))) = rw (next-room q h) (omega (arith, length-snoc zeroEntry es (loadedAt t p)))
+      go (inr (inr (q, h))) = rw (next-full q h) (omega (arith, length-set es (chosen rule rest es) (loadedAt t p)))
+
   -- none is dropped unless the cache is full
   pub dropped-full : (q : Page) → outcome rule n p rest es ≡ Dropped q
       → (holds p es ≡ false) × (n ≤ length es) × (q ≡ entryAt es (chosen rule rest es) .page)

@@ -93,6 +93,14 @@ module _ {A : Type 0} (test : A → Bool) (d : A) where
   index-is xs i h e one =
       elim (decLt i (indexOf test xs)) [ yes k ↦ absurd (index-first xs i k e) | no k ↦ one (indexOf test xs) (omega arith) (index-passes xs (omega arith)) ]
 
+  -- so is a place whose member passes it, if none before does
+  pub index-at : (xs : List A) (i : ℕ) → i < length xs → test (getD xs i d) ≡ true
+    → ((j : ℕ) → j < i → test (getD xs j d) ≡ true → ⊥) → indexOf test xs ≡ i
+  index-at xs i h e none =
+      elim (decLt i (indexOf test xs))
+      [ yes k ↦ absurd (index-first xs i k e)
+      | no k ↦ elim (decLt (indexOf test xs) i) [ yes l ↦ absurd (none (indexOf test xs) l (index-passes xs (omega arith))) | no l ↦ omega arith ] ]
+
   -- ---- some and all
 
   pub any-index : (xs : List A) → any test xs ≡ true → indexOf test xs < length xs
@@ -115,6 +123,10 @@ module _ {A : Type 0} (test : A → Bool) (d : A) where
       go : (b : Bool) → (test (getD xs i d) ≡ true → any test xs ≡ true) → test (getD xs i d) ≡ true → pick b true (any test xs) ≡ true
       go true ih e = refl
       go false ih e = ih e
+
+  pub at-none : (xs : List A) → ((i : ℕ) → i < length xs → test (getD xs i d) ≡ true → ⊥) → any test xs ≡ false
+  at-none xs none =
+      ⊎-elim (λ e. absurd (none (indexOf test xs) (any-index xs e) (index-passes xs (any-index xs e)))) (λ e. e) (bool-cases (any test xs))
 
   pub none-at : (xs : List A) → any test xs ≡ false → (i : ℕ) → i < length xs → test (getD xs i d) ≡ true → ⊥
   none-at xs e i h t = false≢true (sym e ∙ at-any xs i h t)

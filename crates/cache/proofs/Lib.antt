@@ -1,0 +1,5 @@
+pub mod Pairs
+pub mod Orderly
+pub mod Sound
+pub mod Step
+pub mod Long
