@@ -30,7 +30,7 @@ pub record InTime (clock : ℕ) (e : Entry) : Type 0 where
   pub loaded-last : e .loaded .0 ≤ e .last .0
   pub last-clock : e .last .0 < clock
   pub earlier-fits :
-    ((e .loaded .0 ≡ e .last .0) × (e .earlier .0 ≡ mark)) ⊎ ((e .loaded .0 ≤ e .earlier .0) × (e .earlier .0 < e .last .0))
+      ((e .loaded .0 ≡ e .last .0) × (e .earlier .0 ≡ mark)) ⊎ ((e .loaded .0 ≤ e .earlier .0) × (e .earlier .0 < e .last .0))
 
 pub record Orderly (clock : ℕ) (es : List Entry) : Type 0 where
   -- distinct pages
@@ -57,18 +57,20 @@ pub moment-cases : (e : Entry) (m : ℕ) → In m (moments e) → (m ≡ e .load
 moment-cases e m = go (once e) refl
   where
     third : (o : once e ≡ false) (i : ℕ) → i < 3 → getD (e .loaded .0 ∷ e .last .0 ∷ e .earlier .0 ∷ []) i 0 ≡ m
-      → (m ≡ e .loaded .0) ⊎ (m ≡ e .last .0) ⊎ ((once e ≡ false) × (m ≡ e .earlier .0))
+        → (m ≡ e .loaded .0) ⊎ (m ≡ e .last .0) ⊎ ((once e ≡ false) × (m ≡ e .earlier .0))
     third o zero h x = inl (sym x)
     third o (suc zero) h x = inr (inl (sym x))
     third o (suc (suc zero)) h x = inr (inr (o, sym x))
     third o (suc (suc (suc i))) h x = absurd (omega arith)
+
     second : (i : ℕ) → i < 2 → getD (e .loaded .0 ∷ e .last .0 ∷ []) i 0 ≡ m
-      → (m ≡ e .loaded .0) ⊎ (m ≡ e .last .0) ⊎ ((once e ≡ false) × (m ≡ e .earlier .0))
+        → (m ≡ e .loaded .0) ⊎ (m ≡ e .last .0) ⊎ ((once e ≡ false) × (m ≡ e .earlier .0))
     second zero h x = inl (sym x)
     second (suc zero) h x = inr (inl (sym x))
     second (suc (suc i)) h x = absurd (omega arith)
+
     go : (b : Bool) → once e ≡ b → In m (e .loaded .0 ∷ e .last .0 ∷ pick b [] (e .earlier .0 ∷ []))
-      → (m ≡ e .loaded .0) ⊎ (m ≡ e .last .0) ⊎ ((once e ≡ false) × (m ≡ e .earlier .0))
+        → (m ≡ e .loaded .0) ⊎ (m ≡ e .last .0) ⊎ ((once e ≡ false) × (m ≡ e .earlier .0))
     go true q (i, h, x) = second i h x
     go false q (i, h, x) = third q i h x
 
@@ -113,27 +115,33 @@ module _ (rule : Rule) (n t p : ℕ) (rest : List ℕ) (es : List Entry) (sound 
 
   -- a moment after the request is the clock, and of the requested page, or stood in the same frame before
   moment-from : (i : ℕ) → i < length after → (m : ℕ) → In m (moments (entryAt after i))
-    → ((m ≡ t) × (entryAt after i .page .0 ≡ p)) ⊎ ((m < t) × (i < length es) × In m (moments (entryAt es i)))
+      → ((m ≡ t) × (entryAt after i .page .0 ≡ p)) ⊎ ((m < t) × (i < length es) × In m (moments (entryAt es i)))
   moment-from i h m a = go (became i h)
     where
       d : Entry
       d = entryAt es i
+
       page-is : (x : Entry) → entryAt after i ≡ x → x .page .0 ≡ p → entryAt after i .page .0 ≡ p
       page-is x e g = ap (λ (y : Entry). y .page .0) e ∙ g
+
       moved : (x : Entry) → entryAt after i ≡ x → (m ≡ x .loaded .0) ⊎ (m ≡ x .last .0) ⊎ ((once x ≡ false) × (m ≡ x .earlier .0))
       moved x e = moment-cases x m (subst (λ (y : Entry). In m (moments y)) e a)
+
       old : i < length es → In m (moments d) → ((m ≡ t) × (entryAt after i .page .0 ≡ p)) ⊎ ((m < t) × (i < length es) × In m (moments d))
       old k b = inr (moment-below t d m (sound .in-time i k) b, k, b)
+
       load : entryAt after i ≡ loadedAt t p → (m ≡ t) ⊎ (m ≡ t) ⊎ ((true ≡ false) × (m ≡ mark))
-        → ((m ≡ t) × (entryAt after i .page .0 ≡ p)) ⊎ ((m < t) × (i < length es) × In m (moments d))
+          → ((m ≡ t) × (entryAt after i .page .0 ≡ p)) ⊎ ((m < t) × (i < length es) × In m (moments d))
       load e (inl x) = inl (x, page-is (loadedAt t p) e refl)
       load e (inr (inl x)) = inl (x, page-is (loadedAt t p) e refl)
       load e (inr (inr (o, x))) = absurd (true≢false o)
+
       renew : i < length es → d .page .0 ≡ p → entryAt after i ≡ renewed t d → (m ≡ d .loaded .0) ⊎ (m ≡ t) ⊎ ((once (renewed t d) ≡ false) × (m ≡ d .last .0))
-        → ((m ≡ t) × (entryAt after i .page .0 ≡ p)) ⊎ ((m < t) × (i < length es) × In m (moments d))
+          → ((m ≡ t) × (entryAt after i .page .0 ≡ p)) ⊎ ((m < t) × (i < length es) × In m (moments d))
       renew k g e (inl x) = old k (subst (λ (y : ℕ). In y (moments d)) (sym x) (at-loaded d))
       renew k g e (inr (inl x)) = inl (x, page-is (renewed t d) e g)
       renew k g e (inr (inr (o, x))) = old k (subst (λ (y : ℕ). In y (moments d)) (sym x) (at-last d))
+
       go : Became t p es i (entryAt after i) → ((m ≡ t) × (entryAt after i .page .0 ≡ p)) ⊎ ((m < t) × (i < length es) × In m (moments d))
       go (inl (q, e)) = load e (moved (loadedAt t p) e)
       go (inr (inl (q, k, g, e))) = renew k g e (moved (renewed t d) e)
@@ -147,12 +155,12 @@ module _ (rule : Rule) (n t p : ℕ) (rest : List ℕ) (es : List Entry) (sound 
         apart = next-apart rule n t p rest es (sound .apart);
         unmarked = next-unmarked;
         in-time = next-in-time;
-        moments-apart = λ i j h k m a b. go i j h k m (moment-from i h m a) (moment-from j k m b)
+        moments-apart = λ i j h k m a b. go i j h k m (moment-from i h m a) (moment-from j k m b);
       }
     where
       go : (i j : ℕ) → i < length after → j < length after → (m : ℕ)
-        → ((m ≡ t) × (entryAt after i .page .0 ≡ p)) ⊎ ((m < t) × (i < length es) × In m (moments (entryAt es i)))
-        → ((m ≡ t) × (entryAt after j .page .0 ≡ p)) ⊎ ((m < t) × (j < length es) × In m (moments (entryAt es j))) → i ≡ j
+          → ((m ≡ t) × (entryAt after i .page .0 ≡ p)) ⊎ ((m < t) × (i < length es) × In m (moments (entryAt es i)))
+          → ((m ≡ t) × (entryAt after j .page .0 ≡ p)) ⊎ ((m < t) × (j < length es) × In m (moments (entryAt es j))) → i ≡ j
       go i j h k m (inl (x, u)) (inl (y, v)) =
           next-apart rule n t p rest es (sound .apart) i j (omega (arith, pages-length after)) (omega (arith, pages-length after))
           (pages-at after i ∙ u ∙ sym v ∙ sym (pages-at after j))
@@ -172,21 +180,26 @@ module _ (clock : ℕ) (es : List Entry) (sound : Orderly clock es) where
     where
       by-last : Entry → Entry → Bool
       by-last e d = implies (once d) (leb (e .last .0) (d .last .0))
+
       by-earlier : Entry → Entry → Bool
       by-earlier e d = leb (e .earlier .0) (d .earlier .0)
+
       seldom : (f : ℕ) → both (once (entryAt es f)) (all (by-last (entryAt es f)) es) ≡ true → once (entryAt es f) ≡ true
       seldom f a = both-first (once (entryAt es f)) (all (by-last (entryAt es f)) es) a
+
       sooner : (f g : ℕ) → g < length es → both (once (entryAt es f)) (all (by-last (entryAt es f)) es) ≡ true
-        → once (entryAt es g) ≡ true → entryAt es f .last .0 ≤ entryAt es g .last .0
+          → once (entryAt es g) ≡ true → entryAt es f .last .0 ≤ entryAt es g .last .0
       sooner f g l a o =
           leb-true _ _
           (implied (once (entryAt es g)) (leb (entryAt es f .last .0) (entryAt es g .last .0))
           (all-at (by-last (entryAt es f)) zeroEntry es (both-second (once (entryAt es f)) (all (by-last (entryAt es f)) es) a) g l) o)
+
       often : any once es ≡ false → (f : ℕ) → f < length es → once (entryAt es f) ≡ false
       often q f l = ⊎-elim (λ x. absurd (none-at once zeroEntry es q f l x)) (λ x. x) (bool-cases (once (entryAt es f)))
+
       go : (b : Bool) → any once es ≡ b
-        → pick b (both (once (entryAt es i)) (all (by-last (entryAt es i)) es)) (all (by-earlier (entryAt es i)) es) ≡ true
-        → pick b (both (once (entryAt es j)) (all (by-last (entryAt es j)) es)) (all (by-earlier (entryAt es j)) es) ≡ true → i ≡ j
+          → pick b (both (once (entryAt es i)) (all (by-last (entryAt es i)) es)) (all (by-earlier (entryAt es i)) es) ≡ true
+          → pick b (both (once (entryAt es j)) (all (by-last (entryAt es j)) es)) (all (by-earlier (entryAt es j)) es) ≡ true → i ≡ j
       go true q a b = same-moment i j _ h k (at-last (entryAt es i)) _ (at-last (entryAt es j)) (sooner i j k a (seldom j b)) (sooner j i h b (seldom i a))
       go false q a b =
           same-moment i j _ h k (at-earlier (entryAt es i) (often q i h)) _ (at-earlier (entryAt es j) (often q j k))
@@ -194,7 +207,7 @@ module _ (clock : ℕ) (es : List Entry) (sound : Orderly clock es) where
 
   -- of two entries that fit a rule's description, other than MIN's, both are the same
   pub drops-one : (rule : Rule) (rest : List ℕ) → (rule ≡ Min → ⊥) → (i j : ℕ) → i < length es → j < length es
-    → drops rule rest es (entryAt es i) ≡ true → drops rule rest es (entryAt es j) ≡ true → i ≡ j
+      → drops rule rest es (entryAt es i) ≡ true → drops rule rest es (entryAt es j) ≡ true → i ≡ j
   unfolding drops lruDrops fifoDrops
   drops-one Lru rest fed i j h k a b =
       same-moment i j _ h k (at-last (entryAt es i)) _ (at-last (entryAt es j)) (leb-true _ _ (all-at _ zeroEntry es a j k)) (leb-true _ _ (all-at _ zeroEntry es b i h))

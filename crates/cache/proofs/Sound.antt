@@ -60,11 +60,12 @@ is-inside n h k = rw (le-ltb n 1 h, le-ltb 256 n k)
 
 apart-of : (es : List Entry) → pairwise pagesDiffer es ≡ true → Apart (pages es)
 apart-of es e i j h k x =
-    elim (ℕ-discrete i j)
-    [ yes s ↦ s
-    | no s ↦
-      absurd (elim (decLt i j)
-      [ yes l ↦ clash i j l (omega (arith, pages-length es)) x | no l ↦ clash j i (omega arith) (omega (arith, pages-length es)) (sym x) ]) ]
+    elim (ℕ-discrete i j) [
+      | yes s ↦ s
+      | no s ↦
+          absurd (elim (decLt i j)
+          [ yes l ↦ clash i j l (omega (arith, pages-length es)) x | no l ↦ clash j i (omega arith) (omega (arith, pages-length es)) (sym x) ])
+    ]
   where
     clash : (a b : ℕ) → a < b → b < length es → getD (pages es) a 0 ≡ getD (pages es) b 0 → ⊥
     clash a b l m y =
@@ -74,25 +75,25 @@ of-apart : (es : List Entry) → Apart (pages es) → pairwise pagesDiffer es �
 of-apart es a =
     at-pairs pagesDiffer zeroEntry es
     (λ i j h k.
-      of-not _ (ne-eqb _ _ (λ x.
-        let e : i ≡ j = a i j (omega (arith, pages-length es)) (omega (arith, pages-length es)) (pages-at es i ∙ x ∙ sym (pages-at es j)) in omega arith)))
+    of-not _ (ne-eqb _ _ (λ x.
+    let e : i ≡ j = a i j (omega (arith, pages-length es)) (omega (arith, pages-length es)) (pages-at es i ∙ x ∙ sym (pages-at es j)) in omega arith)))
 
 in-time-of : (clock : ℕ) (e : Entry) → inOrder clock e ≡ true → earlierFits e ≡ true → InTime clock e
 in-time-of clock e a b =
     record {
       loaded-last = leb-true _ _ (both-first (leb (e .loaded .0) (e .last .0)) (ltb (e .last .0) clock) a);
       last-clock = ltb-true _ _ (both-second (leb (e .loaded .0) (e .last .0)) (ltb (e .last .0) clock) a);
-      earlier-fits = go (eqb (e .loaded .0) (e .last .0)) refl b
+      earlier-fits = go (eqb (e .loaded .0) (e .last .0)) refl b;
     }
   where
     go : (q : Bool) → eqb (e .loaded .0) (e .last .0) ≡ q
-      → pick q (eqb (e .earlier .0) mark) (both (leb (e .loaded .0) (e .earlier .0)) (ltb (e .earlier .0) (e .last .0))) ≡ true
-      → ((e .loaded .0 ≡ e .last .0) × (e .earlier .0 ≡ mark)) ⊎ ((e .loaded .0 ≤ e .earlier .0) × (e .earlier .0 < e .last .0))
+        → pick q (eqb (e .earlier .0) mark) (both (leb (e .loaded .0) (e .earlier .0)) (ltb (e .earlier .0) (e .last .0))) ≡ true
+        → ((e .loaded .0 ≡ e .last .0) × (e .earlier .0 ≡ mark)) ⊎ ((e .loaded .0 ≤ e .earlier .0) × (e .earlier .0 < e .last .0))
     go true q b = inl (eqb-true _ _ q, eqb-true _ _ b)
     go false q b =
-        inr
-        ( leb-true _ _ (both-first (leb (e .loaded .0) (e .earlier .0)) (ltb (e .earlier .0) (e .last .0)) b)
-        , ltb-true _ _ (both-second (leb (e .loaded .0) (e .earlier .0)) (ltb (e .earlier .0) (e .last .0)) b)
+        inr (
+          leb-true _ _ (both-first (leb (e .loaded .0) (e .earlier .0)) (ltb (e .earlier .0) (e .last .0)) b),
+          ltb-true _ _ (both-second (leb (e .loaded .0) (e .earlier .0)) (ltb (e .earlier .0) (e .last .0)) b),
         )
 
 in-order-from : (clock : ℕ) (e : Entry) → InTime clock e → inOrder clock e ≡ true
@@ -120,18 +121,20 @@ of-differ d e f =
     (λ i h. of-not _ (not-in (getD (moments d) i 0) (moments e) (f (getD (moments d) i 0) (i, h, refl))))
 
 moments-of : (es : List Entry) → pairwise momentsDiffer es ≡ true
-  → (i j : ℕ) → i < length es → j < length es → (m : ℕ) → In m (moments (entryAt es i)) → In m (moments (entryAt es j)) → i ≡ j
+    → (i j : ℕ) → i < length es → j < length es → (m : ℕ) → In m (moments (entryAt es i)) → In m (moments (entryAt es j)) → i ≡ j
 moments-of es e i j h k m a b =
-    elim (ℕ-discrete i j)
-    [ yes s ↦ s
-    | no s ↦
-      absurd (elim (decLt i j)
-      [ yes l ↦ differ-of _ _ (pairs-at momentsDiffer zeroEntry es e i j l k) m a b
-      | no l ↦ differ-of _ _ (pairs-at momentsDiffer zeroEntry es e j i (omega arith) h) m b a ]) ]
+    elim (ℕ-discrete i j) [
+      | yes s ↦ s
+      | no s ↦
+          absurd (elim (decLt i j) [
+            | yes l ↦ differ-of _ _ (pairs-at momentsDiffer zeroEntry es e i j l k) m a b
+            | no l ↦ differ-of _ _ (pairs-at momentsDiffer zeroEntry es e j i (omega arith) h) m b a
+          ])
+    ]
 
 of-moments : (es : List Entry)
-  → ((i j : ℕ) → i < length es → j < length es → (m : ℕ) → In m (moments (entryAt es i)) → In m (moments (entryAt es j)) → i ≡ j)
-  → pairwise momentsDiffer es ≡ true
+    → ((i j : ℕ) → i < length es → j < length es → (m : ℕ) → In m (moments (entryAt es i)) → In m (moments (entryAt es j)) → i ≡ j)
+    → pairwise momentsDiffer es ≡ true
 of-moments es f =
     at-pairs momentsDiffer zeroEntry es
     (λ i j h k. of-differ (entryAt es i) (entryAt es j) (λ m a b. let e : i ≡ j = f i j (omega arith) k m a b in omega arith))
@@ -154,13 +157,13 @@ sound-is c e =
       held-frames = leb-true _ _ (at 3 (omega arith));
       held-clock = leb-true _ _ (at 4 (omega arith));
       orderly =
-        record {
-          apart = apart-of es (at 5 (omega arith));
-          unmarked = λ i h x. eqb-false _ _ (not-of _ (all-at (λ (e : Entry). not (eqb (e .page .0) mark)) zeroEntry es marks i h)) x;
-          in-time = λ i h. in-time-of (c .clock) (entryAt es i) (all-at (inOrder (c .clock)) zeroEntry es order i h) (all-at earlierFits zeroEntry es fits i h);
-          moments-apart = moments-of es (at 9 (omega arith))
-        };
-      blank-after = at 10 (omega arith)
+          record {
+            apart = apart-of es (at 5 (omega arith));
+            unmarked = λ i h x. eqb-false _ _ (not-of _ (all-at (λ (e : Entry). not (eqb (e .page .0) mark)) zeroEntry es marks i h)) x;
+            in-time = λ i h. in-time-of (c .clock) (entryAt es i) (all-at (inOrder (c .clock)) zeroEntry es order i h) (all-at earlierFits zeroEntry es fits i h);
+            moments-apart = moments-of es (at 9 (omega arith));
+          };
+      blank-after = at 10 (omega arith);
     }
   where
     at : (k : ℕ) → k < 11 → getD (conditions c) k false ≡ true
@@ -189,18 +192,25 @@ blank-is e a = λ k. record { page = record { 0 = p k }; loaded = record { 0 = l
   where
     b₁ : Bool
     b₁ = eqb (e .page .0) mark
+
     b₂ : Bool
     b₂ = eqb (e .loaded .0) mark
+
     b₃ : Bool
     b₃ = eqb (e .last .0) mark
+
     b₄ : Bool
     b₄ = eqb (e .earlier .0) mark
+
     p : e .page .0 ≡ mark
     p = eqb-true _ _ (both-first b₁ (both b₂ (both b₃ b₄)) a)
+
     l : e .loaded .0 ≡ mark
     l = eqb-true _ _ (both-first b₂ (both b₃ b₄) (both-second b₁ (both b₂ (both b₃ b₄)) a))
+
     s : e .last .0 ≡ mark
     s = eqb-true _ _ (both-first b₃ b₄ (both-second b₂ (both b₃ b₄) (both-second b₁ (both b₂ (both b₃ b₄)) a)))
+
     r : e .earlier .0 ≡ mark
     r = eqb-true _ _ (both-second b₃ b₄ (both-second b₂ (both b₃ b₄) (both-second b₁ (both b₂ (both b₃ b₄)) a)))
 
@@ -230,7 +240,7 @@ module _ (c : Cache) (size : length (c .entries) ≡ 256) (s : Sound c) where
 
 -- a record that holds entries in order, at most as many as it has frames, one request later
 pub holding-sound : (c : Cache) (es : List Entry) → Sound c → c .clock < 8000 → length es ≤ c .frames → length es ≤ suc (c .clock)
-  → Orderly (suc (c .clock)) es → Sound (holding c es)
+    → Orderly (suc (c .clock)) es → Sound (holding c es)
 holding-sound c es s h k l o =
     record {
       feeds = s .feeds;
@@ -240,7 +250,7 @@ holding-sound c es s h k l o =
       held-frames = k;
       held-clock = omega arith;
       orderly = rw (take-append-seam es (replicate (frameLimit - length es) blankEntry), add-one (c .clock)) o;
-      blank-after = rw (drop-append-seam es (replicate (frameLimit - length es) blankEntry)) (all-blank (frameLimit - length es))
+      blank-after = rw (drop-append-seam es (replicate (frameLimit - length es) blankEntry)) (all-blank (frameLimit - length es));
     }
 
 -- THE EMPTY CACHE is sound
@@ -254,11 +264,11 @@ empty-sound rule frames f h k =
       held-frames = omega arith;
       held-clock = omega arith;
       orderly =
-        record {
-          apart = apart-nil;
-          unmarked = λ i l x. absurd (omega arith);
-          in-time = λ i l. absurd (omega arith);
-          moments-apart = λ i j l m n a b. absurd (omega arith)
-        };
-      blank-after = all-blank 256
+          record {
+            apart = apart-nil;
+            unmarked = λ i l x. absurd (omega arith);
+            in-time = λ i l. absurd (omega arith);
+            moments-apart = λ i j l m n a b. absurd (omega arith);
+          };
+      blank-after = all-blank 256;
     }

@@ -234,4 +234,46 @@ impl Cache {
         next.held = held;
         next
     }
+
+    // A page that isn't held comes in: into the lowest free frame, or in place of the page dropped.
+    fn load(self, page: Page) -> Served
+        requires { ⌜ (sound self ≡ true) × (self .clock < 8000) × (holds (page .0) (heldEntries self) ≡ false) ⌝ }
+        ensures { λ r. ⌜ r ≡ served self (page .0) ⌝ }
+    {
+        let held = self.held;
+        let entry = loaded_at(Moment(self.clock), page);
+        if held < self.frames {
+            return Served {
+                outcome: Outcome::Loaded,
+                next: self.place(Frame(held), entry, held + 1),
+            };
+        }
+        let frame = self.victim();
+        let at = frame.0 as usize;
+        let old = self.entries[at];
+        let dropped = old.page;
+        Served {
+            outcome: Outcome::Dropped(dropped),
+            next: self.place(frame, entry, held),
+        }
+    }
+
+    // One request of a sound record.
+    fn serve(self, page: Page) -> Served
+        requires { ⌜ (sound self ≡ true) × (self .clock < 8000) ⌝ }
+        ensures { λ r. ⌜ r ≡ served self (page .0) ⌝ }
+    {
+        match self.find(page) {
+            Found::At(frame) => {
+                let at = frame.0 as usize;
+                let old = self.entries[at];
+                let entry = renewed(old, Moment(self.clock));
+                Served {
+                    outcome: Outcome::Hit,
+                    next: self.place(frame, entry, self.held),
+                }
+            }
+            Found::Nothing => self.load(page),
+        }
+    }
 }

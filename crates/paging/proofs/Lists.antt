@@ -95,11 +95,12 @@ module _ {A : Type 0} (test : A → Bool) (d : A) where
 
   -- so is a place whose member passes it, if none before does
   pub index-at : (xs : List A) (i : ℕ) → i < length xs → test (getD xs i d) ≡ true
-    → ((j : ℕ) → j < i → test (getD xs j d) ≡ true → ⊥) → indexOf test xs ≡ i
+      → ((j : ℕ) → j < i → test (getD xs j d) ≡ true → ⊥) → indexOf test xs ≡ i
   index-at xs i h e none =
-      elim (decLt i (indexOf test xs))
-      [ yes k ↦ absurd (index-first xs i k e)
-      | no k ↦ elim (decLt (indexOf test xs) i) [ yes l ↦ absurd (none (indexOf test xs) l (index-passes xs (omega arith))) | no l ↦ omega arith ] ]
+      elim (decLt i (indexOf test xs)) [
+        | yes k ↦ absurd (index-first xs i k e)
+        | no k ↦ elim (decLt (indexOf test xs) i) [ yes l ↦ absurd (none (indexOf test xs) l (index-passes xs (omega arith))) | no l ↦ omega arith ]
+      ]
 
   -- ---- some and all
 

@@ -36,12 +36,12 @@ key-requires c κs = search needs
 loop-holds : tie.Need-loop-holds Inv-loop μ-loop
 loop-holds c =
     let s = c .before .before in
-    let k : Sound (s .args .t1) = sound-is (s .args .t1) (s .pre .0) in
-    ( omega arith
-    , s .pre .1
-    , omega (arith, k .held-frames, k .frames-most)
-    , c .key .ensures
-    , λ j h. let e : j ≡ 0 = omega arith in rw e (omega arith)
+    let k : Sound (s .args .t1) = sound-is (s .args .t1) (s .pre .0) in (
+      omega arith,
+      s .pre .1,
+      omega (arith, k .held-frames, k .frames-most),
+      c .key .ensures,
+      λ j h. let e : j ≡ 0 = omega arith in rw e (omega arith),
     )
 
 mul-key : tie.Need-mul-key Inv-loop μ-loop
@@ -66,21 +66,21 @@ loop-again c =
     let f : ℕ → ℕ = λ (j : ℕ). keyOf (s .args .t1 .rule) (entryAt (s .args .t1 .entries) j) in
     ⊎-elim
     (λ w.
-      rw (w .1, w .2)
-      ( omega arith
-      , omega arith
-      , loop .inv .2
-      , c .before .key2 .ensures
-      , least-new f (loop .best) (loop .i) (loop .inv .4) (omega (arith, w .0 .taken, c .before .key2 .ensures, loop .inv .3))
-      ))
+    rw (w .1, w .2) (
+      omega arith,
+      omega arith,
+      loop .inv .2,
+      c .before .key2 .ensures,
+      least-new f (loop .best) (loop .i) (loop .inv .4) (omega (arith, w .0 .taken, c .before .key2 .ensures, loop .inv .3)),
+    ))
     (λ w.
-      rw (w .1, w .2)
-      ( omega arith
-      , omega arith
-      , loop .inv .2
-      , loop .inv .3
-      , least-old f (loop .best) (loop .i) (loop .inv .4) (omega (arith, w .0 .left, c .before .key2 .ensures, loop .inv .3))
-      ))
+    rw (w .1, w .2) (
+      omega arith,
+      omega arith,
+      loop .inv .2,
+      loop .inv .3,
+      least-old f (loop .best) (loop .i) (loop .inv .4) (omega (arith, w .0 .left, c .before .key2 .ensures, loop .inv .3)),
+    ))
     (c .if1 .came)
 
 cast-t9 : tie.Need-cast-t9 Inv-loop μ-loop
