@@ -3,3 +3,4 @@ pub mod Orderly
 pub mod Sound
 pub mod Step
 pub mod Long
+pub mod Feed

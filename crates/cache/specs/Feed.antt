@@ -2,7 +2,7 @@
 -- Assumes nothing.
 use mathlib.Core.List.{List, [], _∷_}
 use mathlib.Core.Bool.{Bool, true, false}
-use Prim.Native.Nat.{ℕ}
+use Prim.Native.Nat.{ℕ, _+_}
 use lib.Dec.{eqb}
 use Rattle.paging.specs.Lists.{pick, not}
 use Rattle.paging.specs.Rules.{mark}
@@ -52,3 +52,31 @@ fedBy (No refusal) c p = record { outcome = Refused refusal; next = c }
 unfoldable pub fed : Cache → ℕ → Fed
 unfolding feedTests gate served
 fed c p = fedBy (gate (feedTests c p)) c p
+
+-- ---- feeding a trace, one request after the other
+
+unfoldable pub feeding : Cache → List ℕ → List Reply
+unfolding fed
+feeding c [] = []
+feeding c (p ∷ ps) = fed c p .outcome ∷ feeding (fed c p .next) ps
+
+-- the plan's word of a reply, and whether it is a fault; a refusal has neither
+abbrev pub replyWord : Reply → ℕ
+replyWord Hit = mark
+replyWord Loaded = mark
+replyWord (Dropped p) = p .0
+replyWord (Refused refusal) = mark
+
+abbrev pub replyFault : Reply → ℕ
+replyFault Hit = 0
+replyFault Loaded = 1
+replyFault (Dropped p) = 1
+replyFault (Refused refusal) = 0
+
+unfoldable pub fedPlan : List Reply → List ℕ
+fedPlan [] = []
+fedPlan (r ∷ rs) = replyWord r ∷ fedPlan rs
+
+unfoldable pub fedFaults : List Reply → ℕ
+fedFaults [] = 0
+fedFaults (r ∷ rs) = replyFault r + fedFaults rs
