@@ -1,6 +1,7 @@
 pub mod Pairs
 pub mod Orderly
-pub mod Sound
+pub mod Soundness
 pub mod Step
 pub mod Long
-pub mod Feed
+pub mod Feeding
+pub mod Counting

@@ -14,7 +14,7 @@ use lib.ListN.{length, take, set, replicate, length-set}
 use lib.Seq.{length-take-le, getD-take, set-append-left, set-append-seam, append-snoc}
 use borrow.Author.Tests.{eqb-true, eqb-false, eq-eqb, ne-eqb, le-leb}
 use Rattle.paging.specs.Lists.{pick, both, implies, any, all, indexOf}
-use Rattle.paging.specs.Rules.{mark, ruleNumbered, once, lruDrops, fifoDrops, lru2Drops, drops, chosen}
+use Rattle.paging.specs.Rules.{mark, ruleNumbered, named, once, lruDrops, fifoDrops, lru2Drops, drops, chosen}
 use Rattle.paging.specs.Walk.{holds, frameOf, zeroEntry, entryAt, loadedAt, renewed, next}
 use Rattle.paging.specs.Calls.{frameLimit}
 use Rattle.paging.specs.declared.Entry.{Entry}
@@ -28,10 +28,10 @@ use Rattle.cache.specs.declared.Found.the-variants.{At, Nothing}
 use Rattle.cache.specs.declared.Served.{Served}
 use Rattle.paging.specs.declared.Outcome.{Outcome}
 use Rattle.paging.specs.declared.Outcome.the-variants.{Hit, Loaded, Dropped}
-use Rattle.cache.specs.Record.{blankEntry, heldOf, heldEntries, padded, holding, named, ruleOf, feedable}
+use Rattle.cache.specs.Record.{blankEntry, heldOf, heldEntries, padded, holding, ruleOf, feedable}
 use Rattle.cache.specs.Feed.{served}
 use Rattle.cache.proofs.Orderly.{InTime, Orderly, chosen-is, next-orderly}
-use Rattle.cache.proofs.Sound.{Sound, held-length, entries-padded, holding-sound}
+use Rattle.cache.proofs.Soundness.{Sound, held-length, entries-padded, holding-sound}
 use Rattle.cache.specs.Step.{foundIn, keyOf, placed}
 
 -- ---- where a page is held

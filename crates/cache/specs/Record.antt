@@ -8,13 +8,10 @@ use Prim.Native.Nat.{ℕ, _+_, _-_}
 use lib.Dec.{eqb}
 use lib.ListN.{length, take, drop, replicate}
 use Rattle.paging.specs.Lists.{pick, not}
-use Rattle.paging.specs.Rules.{mark, ruleNumbered}
+use Rattle.paging.specs.Rules.{mark, ruleNumbered, named}
 use Rattle.paging.specs.Calls.{frameLimit, Test, test, gate, outside}
 use Rattle.paging.specs.declared.Entry.{Entry}
 use Rattle.paging.specs.declared.Rule.{Rule}
-use Rattle.paging.specs.declared.Rule.the-variants.{Lru}
-use Rattle.paging.specs.declared.Numbered.{Numbered}
-use Rattle.paging.specs.declared.Numbered.the-variants.{Is, Unknown}
 use Rattle.paging.specs.declared.Gate.{Gate}
 use Rattle.paging.specs.declared.Gate.the-variants.{Open, No}
 use Rattle.paging.specs.declared.Refusal.the-variants.{UnknownRule, FramesOutside}
@@ -47,10 +44,6 @@ abbrev pub heldEntries : Cache → List Entry
 heldEntries c = take (heldOf c) (c .entries)
 
 -- the record's rule; a sound record has one
-abbrev pub named : Numbered → Rule
-named (Is rule) = rule
-named Unknown = Lru
-
 abbrev pub ruleOf : Cache → Rule
 ruleOf c = named (ruleNumbered (c .rule))
 

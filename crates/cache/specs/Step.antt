@@ -7,11 +7,13 @@ use lib.Dec.{eqb}
 use lib.ListN.{set}
 use Rattle.paging.specs.Lists.{pick}
 use Rattle.paging.specs.Rules.{once}
-use Rattle.paging.specs.Walk.{holds, frameOf}
+use Rattle.paging.specs.Walk.{holds, frameOf, outcomes}
 use Rattle.paging.specs.Calls.{requestLimit}
 use Rattle.paging.specs.declared.Entry.{Entry}
+use Rattle.paging.specs.declared.Outcome.{Outcome}
 use Rattle.cache.specs.declared.Cache.{Cache}
 use Rattle.cache.specs.declared.Found.{Found}
+use Rattle.cache.specs.Record.{heldEntries, ruleOf}
 use Rattle.cache.specs.declared.Found.the-variants.{At, Nothing}
 
 -- the frame that holds a page, if one does
@@ -30,3 +32,7 @@ keyOf rule e =
 abbrev pub placed : Cache → ℕ → Entry → ℕ → Cache
 placed c frame e held =
     record { rule = c .rule; frames = c .frames; clock = c .clock + 1; held = held; entries = set (c .entries) frame e }
+
+-- what feeding requests to a record comes to
+abbrev pub outcomesFrom : Cache → List ℕ → List Outcome
+outcomesFrom c ps = outcomes (ruleOf c) (c .frames) (c .clock) ps (heldEntries c)

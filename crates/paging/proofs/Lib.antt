@@ -8,3 +8,4 @@ pub mod Own
 pub mod PlanRule
 pub mod Calls
 pub mod Picks
+pub mod Writing

@@ -85,3 +85,8 @@ ruleNumbered number =
     (pick (eqb number 2) (Is Fifo)
     (pick (eqb number 3) (Is Min)
     (pick (eqb number 4) (Is Lru2) Unknown)))
+
+-- the rule that a number stands for, where it stands for one
+abbrev pub named : Numbered → Rule
+named (Is rule) = rule
+named Unknown = Lru

@@ -8,7 +8,7 @@ use borrow.Author.Needs.{needs}
 use Rattle.paging.specs.Rules.{chosen}
 use Rattle.cache.specs.Record.{heldOf, heldEntries, ruleOf}
 use Rattle.cache.proofs.Long.{long}
-use Rattle.cache.proofs.Sound.{Sound, sound-is}
+use Rattle.cache.proofs.Soundness.{Sound, sound-is}
 use Rattle.cache.proofs.Step.{served-room, served-full}
 use Rattle.cache.proofs.Cache.load.Statement.{statement}
 use Rattle.cache.proofs.Cache.load.Tie as tie

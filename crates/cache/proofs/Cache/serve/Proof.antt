@@ -12,7 +12,7 @@ use Rattle.cache.specs.Record.{heldOf, heldEntries}
 use Rattle.cache.specs.Feed.{served}
 use Rattle.cache.specs.Step.{placed}
 use Rattle.cache.proofs.Long.{long}
-use Rattle.cache.proofs.Sound.{Sound, sound-is}
+use Rattle.cache.proofs.Soundness.{Sound, sound-is}
 use Rattle.cache.proofs.Step.{found-frame, found-nothing, served-hit}
 use Rattle.cache.proofs.Cache.serve.Statement.{statement}
 use Rattle.cache.proofs.Cache.serve.Tie as tie

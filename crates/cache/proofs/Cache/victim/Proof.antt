@@ -8,7 +8,7 @@ use borrow.Author.Needs.{needs}
 use Rattle.paging.specs.Walk.{entryAt}
 use Rattle.cache.specs.Step.{keyOf}
 use Rattle.cache.proofs.Long.{long}
-use Rattle.cache.proofs.Sound.{Sound, sound-is}
+use Rattle.cache.proofs.Soundness.{Sound, sound-is}
 use Rattle.cache.proofs.Step.{least-new, least-old, key-chosen}
 use Rattle.cache.proofs.Cache.victim.Statement.{statement}
 use Rattle.cache.proofs.Cache.victim.Tie as tie

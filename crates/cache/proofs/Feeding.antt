@@ -15,7 +15,7 @@ use lib.ListN.{length, take, replicate, length-append, length-replicate}
 use lib.Seq.{take-append-seam}
 use borrow.Author.Tests.{eq-eqb, ne-eqb, eqb-true, eqb-false}
 use Rattle.paging.specs.Lists.{pick, not, any}
-use Rattle.paging.specs.Rules.{mark, ruleNumbered, drops, chosen}
+use Rattle.paging.specs.Rules.{mark, ruleNumbered, named, drops, chosen}
 use Rattle.paging.specs.Walk.{entryAt, outcome, next, outcomes, faultOf, wordOf, faultsIn, planIn, faults, plan}
 use Rattle.paging.specs.Calls.{frameLimit, gate, marked}
 use Rattle.paging.specs.declared.Entry.{Entry}
@@ -30,17 +30,18 @@ use Rattle.paging.proofs.Frames.{next-size}
 use Rattle.cache.specs.declared.Cache.{Cache}
 use Rattle.cache.specs.declared.Reply.{Reply}
 use Rattle.cache.specs.declared.Fed.{Fed}
-use Rattle.cache.specs.Record.{blankEntry, emptyCache, heldOf, heldEntries, padded, named, ruleOf, feedable}
+use Rattle.cache.specs.Record.{blankEntry, emptyCache, heldOf, heldEntries, padded, ruleOf, feedable}
 use Rattle.cache.specs.Sound.{sound}
 use Rattle.cache.specs.Feed.{served, replyOf, feedTests, fedBy, fed, feeding, replyWord, replyFault, fedPlan, fedFaults}
+use Rattle.cache.specs.Step.{outcomesFrom}
 use Rattle.cache.proofs.Orderly.{drops-one}
-use Rattle.cache.proofs.Sound.{Sound, sound-is, is-sound, held-length, empty-sound}
+use Rattle.cache.proofs.Soundness.{Sound, sound-is, is-sound, held-length, empty-sound}
 use Rattle.cache.proofs.Step.{not-min, served-sound}
 
 -- ---- where nothing is refused
 
 pub fed-open : (c : Cache) (p : ℕ) → sound c ≡ true → (p ≡ mark → ⊥) → (c .clock ≡ 8000 → ⊥)
-  → _≡_ {A = Fed} (fed c p) (record { outcome = replyOf (served c p .outcome); next = served c p .next })
+    → _≡_ {A = Fed} (fed c p) (record { outcome = replyOf (served c p .outcome); next = served c p .next })
 unfolding fed
 fed-open c p s page clock = rw (s, ne-eqb p mark page, ne-eqb (c .clock) 8000 clock)
 
@@ -75,8 +76,8 @@ fed-sound c p size s = go (eqb p mark) (eqb (c .clock) 8000) refl refl
 -- ---- THE PAGE DROPPED IS UNIQUE, on a sound record: only one entry fits the rule's description
 
 pub dropped-one : (c : Cache) → length (c .entries) ≡ 256 → sound c ≡ true → (i j : ℕ) → i < heldOf c → j < heldOf c
-  → drops (ruleOf c) [] (heldEntries c) (entryAt (heldEntries c) i) ≡ true
-  → drops (ruleOf c) [] (heldEntries c) (entryAt (heldEntries c) j) ≡ true → i ≡ j
+    → drops (ruleOf c) [] (heldEntries c) (entryAt (heldEntries c) i) ≡ true
+    → drops (ruleOf c) [] (heldEntries c) (entryAt (heldEntries c) j) ≡ true → i ≡ j
 dropped-one c size s i j h k =
     let w : Sound c = sound-is c s in
     drops-one (c .clock) (heldEntries c) (w .orderly) (ruleOf c) [] (not-min c size w) i j
@@ -110,31 +111,48 @@ unmarked-cons p ps = go (eqb p mark) refl
     go false q m = (eqb-false _ _ q, m)
 
 -- one request, then the rest
-one-by-one : (c : Cache) (p : ℕ) (ps : List ℕ) → (ruleOf c ≡ Min → ⊥)
-  → feeding (served c p .next) ps ≡ map replyOf (outcomes (ruleOf (served c p .next)) (served c p .next .frames) (served c p .next .clock) ps (heldEntries (served c p .next)))
-  → _≡_ {A = List Reply} (replyOf (served c p .outcome) ∷ feeding (served c p .next) ps)
-    (map replyOf (outcomes (ruleOf c) (c .frames) (c .clock) (p ∷ ps) (heldEntries c)))
+pub outcomes-step : (c : Cache) (p : ℕ) (ps : List ℕ) → (ruleOf c ≡ Min → ⊥) → outcomesFrom c (p ∷ ps) ≡ served c p .outcome ∷ outcomesFrom (served c p .next) ps
 unfolding served outcomes
-one-by-one c p ps fed ih =
+outcomes-step c p ps fed =
     let es : List Entry = heldEntries c in
-    ap₂ (λ (r : Reply) (rs : List Reply). r ∷ rs) (ap replyOf (sym (outcome-now (ruleOf c) (c .frames) p ps es fed)))
-    (ih ∙ ap₂ (λ (t : ℕ) (new : List Entry). map replyOf (outcomes (ruleOf c) (c .frames) t ps new)) (add-one (c .clock))
-    (served-held c p ∙ sym (next-now (ruleOf c) (c .frames) (c .clock) p ps es fed)))
+    ap₂ (λ (o : Outcome) (os : List Outcome). o ∷ os) (outcome-now (ruleOf c) (c .frames) p ps es fed)
+    (ap₂ (λ (t : ℕ) (new : List Entry). outcomes (ruleOf c) (c .frames) t ps new) (sym (add-one (c .clock)))
+    (next-now (ruleOf c) (c .frames) (c .clock) p ps es fed ∙ sym (served-held c p)))
 
-later : (c : Cache) (p : ℕ) (ps : List ℕ) → c .clock + length (p ∷ ps) ≤ 8000 → served c p .next .clock + length ps ≤ 8000
-unfolding served
-later c p ps h = omega arith
+-- a record that can be fed these requests without a refusal
+pub record Fits (c : Cache) (ps : List ℕ) : Type 0 where
+  pub sound-now : Sound c
+  pub long-now : length (c .entries) ≡ 256
+  pub time-left : c .clock + length ps ≤ 8000
+  pub no-mark : marked ps ≡ false
 
--- from a sound record, the replies are the outcomes of the walk from its entries
-pub feeding-walks : (ps : List ℕ) (c : Cache) → length (c .entries) ≡ 256 → Sound c → c .clock + length ps ≤ 8000 → marked ps ≡ false
-  → feeding c ps ≡ map replyOf (outcomes (ruleOf c) (c .frames) (c .clock) ps (heldEntries c))
+pub fits-first : (c : Cache) (ps : List ℕ) → length (c .entries) ≡ 256 → (sound c ≡ true) → (c .clock + length ps ≤ 8000) → (marked ps ≡ false) → Fits c ps
+fits-first c ps l s h m = record { sound-now = sound-is c s; long-now = l; time-left = h; no-mark = m }
+
+pub fits-next : (c : Cache) (p : ℕ) (ps : List ℕ) → Fits c (p ∷ ps) → (p ≡ mark → ⊥) × Fits (served c p .next) ps
+fits-next c p ps f =
+    let (page, rest) = unmarked-cons p ps (f .no-mark) in (
+      page,
+      record {
+        sound-now = served-sound c p (f .long-now) (f .sound-now) (omega (arith, f .time-left)) page;
+        long-now = served-size c p (f .long-now) (f .sound-now);
+        time-left = later c p ps (f .time-left);
+        no-mark = rest;
+      },
+    )
+  where
+    later : (c : Cache) (p : ℕ) (ps : List ℕ) → c .clock + length (p ∷ ps) ≤ 8000 → served c p .next .clock + length ps ≤ 8000
+    later c p ps h = unfold served in omega arith
+
+-- the replies are the outcomes of the walk from its entries
+pub feeding-walks : (ps : List ℕ) (c : Cache) → Fits c ps → feeding c ps ≡ map replyOf (outcomesFrom c ps)
 unfolding feeding outcomes
-feeding-walks [] c size s h m = refl
-feeding-walks (p ∷ ps) c size s h m =
-    let (page, rest) = unmarked-cons p ps m in
-    let full : c .clock ≡ 8000 → ⊥ = λ x. omega arith in
-    rw (fed-open c p (is-sound c s) page full) (one-by-one c p ps (not-min c size s)
-    (feeding-walks ps (served c p .next) (served-size c p size s) (served-sound c p size s (omega arith) page) (later c p ps h) rest))
+feeding-walks [] c f = refl
+feeding-walks (p ∷ ps) c f =
+    let (page, g) = fits-next c p ps f in
+    let full : c .clock ≡ 8000 → ⊥ = λ x. omega (arith, f .time-left) in
+    rw (fed-open c p (is-sound c (f .sound-now)) page full) (ap (λ (rs : List Reply). replyOf (served c p .outcome) ∷ rs) (feeding-walks ps (served c p .next) g))
+    ∙ ap (map replyOf) (sym (outcomes-step c p ps (not-min c (f .long-now) (f .sound-now))))
 
 plan-of-replies : (os : List Outcome) → fedPlan (map replyOf os) ≡ planIn os
 unfolding fedPlan planIn
@@ -154,7 +172,9 @@ faults-of-replies (O.Dropped p ∷ os) = ap (λ (k : ℕ). 1 + k) (faults-of-rep
 module _ (rule n : ℕ) (trace : List ℕ) (feeds : feedable rule ≡ true) (some : 1 ≤ n) (most : n ≤ 256) (short : length trace ≤ 8000) (clean : marked trace ≡ false) where
   -- the replies are the walk's outcomes
   pub feeding-gives-the-walk : feeding (emptyCache rule n) trace ≡ map replyOf (outcomes (named (ruleNumbered rule)) n 0 trace [])
-  feeding-gives-the-walk = feeding-walks trace (emptyCache rule n) refl (empty-sound rule n feeds some most) (omega arith) clean
+  feeding-gives-the-walk =
+      feeding-walks trace (emptyCache rule n)
+      (fits-first (emptyCache rule n) trace refl (is-sound (emptyCache rule n) (empty-sound rule n feeds some most)) (omega arith) clean)
 
   -- so they give the rule's plan
   pub feeding-gives-the-plan : fedPlan (feeding (emptyCache rule n) trace) ≡ plan (named (ruleNumbered rule)) n trace
