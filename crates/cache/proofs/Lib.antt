@@ -4,4 +4,4 @@ pub mod Soundness
 pub mod Step
 pub mod Long
 pub mod Feeding
-pub mod Counting
+pub mod Running

@@ -1,11 +1,11 @@
 // Loops that feed a whole trace to a record. They stand beside the inner step, which asks for a sound record and so stays private.
 ghost use mathlib.Core.Path.{_≡_};
 ghost use mathlib.Core.Bool.{true, false};
-ghost use mathlib.Core.List.{_++_};
 ghost use Prim.Native.Nat.{_+_, _≤_};
-ghost use lib.ListN.{length, drop};
+ghost use lib.ListN.{length};
 ghost use Rattle.paging.specs.Walk.{faultOf, wordOf, faultsIn, planIn};
 ghost use Rattle.paging.specs.Calls.{marked};
+ghost use Rattle.paging.specs.Services.{laid};
 ghost use Rattle.cache.specs.Sound.{sound};
 ghost use Rattle.cache.specs.Step.{outcomesFrom};
 use crate::Cache;
@@ -34,10 +34,10 @@ fn word(o: Outcome) -> u32
     }
 }
 
-// The faults of feeding a trace to a record.
-fn count_from(start: Cache, trace: &[u32]) -> u32
+// Feeds a trace to a record: its faults, and as much of its plan as there are lent words for. With no words it only counts.
+fn run_from(start: Cache, trace: &[u32], words: &mut [u32]) -> u32
     requires { ⌜ (sound start ≡ true) × (start .clock + length (now trace) ≤ 8000) × (marked (now trace) ≡ false) ⌝ }
-    ensures { λ r. ⌜ r ≡ faultsIn (outcomesFrom start (now (trace .entry))) ⌝ }
+    ensures { λ r. ⌜ (r ≡ faultsIn (outcomesFrom start (now (trace .entry)))) × (now (words .exit) ≡ laid (planIn (outcomesFrom start (now (trace .entry)))) (now (words .entry))) ⌝ }
 {
     let mut cur = start;
     let mut faults: u32 = 0;
@@ -46,25 +46,9 @@ fn count_from(start: Cache, trace: &[u32]) -> u32
         let a = cur.serve(Page(trace[i]));
         let o = a.outcome;
         faults += fault(o);
-        cur = a.next;
-        i += 1;
-    }
-    faults
-}
-
-// The same, with the plan written into the first words.
-fn plan_from(start: Cache, trace: &[u32], words: &mut [u32]) -> u32
-    requires { ⌜ (sound start ≡ true) × (start .clock + length (now trace) ≤ 8000) × (marked (now trace) ≡ false) × (length (now trace) ≤ length (now words)) ⌝ }
-    ensures { λ r. ⌜ (r ≡ faultsIn (outcomesFrom start (now (trace .entry)))) × (now (words .exit) ≡ planIn (outcomesFrom start (now (trace .entry))) ++ drop (length (now (trace .entry))) (now (words .entry))) ⌝ }
-{
-    let mut cur = start;
-    let mut faults: u32 = 0;
-    let mut i: usize = 0;
-    while i < trace.len() {
-        let a = cur.serve(Page(trace[i]));
-        let o = a.outcome;
-        faults += fault(o);
-        words[i] = word(o);
+        if i < words.len() {
+            words[i] = word(o);
+        }
         cur = a.next;
         i += 1;
     }

@@ -1,42 +1,102 @@
--- A loop that writes a list into the front of lent words, one after the other, and keeps the words past it.
+-- A loop that walks a trace, counts faults and writes the plan into lent words, one word for each outcome, as far as there is room.
 --
--- `Writing words₀ words i rest whole`: the first i words are written, `rest` is left to write of `whole`, and from i on the words are as they were lent.
+-- `Reading whole left words₀ words f i`: of the outcomes `whole` the first i are read, with f faults, and `left` are to come; the words were lent as
+-- `words₀` and are now `words`. It holds for the walk of any rule, whatever state the loop keeps.
 -- Assumes nothing.
-use mathlib.Core.Path.{_≡_, refl, sym, ap, _∙_}
+use mathlib.Core.Path.{_≡_, refl, sym, ap, ap₂, _∙_}
+use mathlib.Core.Logic.{_⊎_, inl, inr}
 use mathlib.Core.List.{List, [], _∷_, _++_, append-nil}
-use Prim.Native.Nat.{ℕ, suc, _+_, _<_}
+use Prim.Native.Nat.{ℕ, zero, suc, _+_, _-_, _≤_, _<_}
 use native.Mathlib.Numerals.{add-one}
 use native.Mathlib.Omega.{arith}
+use native.Mathlib.Decide.{decLt}
 use lib.ListN.{length, take, drop, set, length-set, take-append-drop}
-use lib.Seq.{take-suc-set, drop-set-lt, drop-drop, append-snoc}
+use lib.Seq.{take-suc-set, take-all, take-nil, drop-set-lt, drop-drop, set-out, append-snoc}
+use Rattle.paging.specs.Walk.{outcomes, faultOf, wordOf, faultsIn, planIn}
+use Rattle.paging.specs.Services.{laid}
+use Rattle.paging.specs.declared.Entry.{Entry}
+use Rattle.paging.specs.declared.Rule.{Rule}
+use Rattle.paging.specs.declared.Outcome.{Outcome}
+use Rattle.paging.specs.declared.Outcome.the-variants.{Hit, Loaded, Dropped}
 
-module _ {A : Type 0} where
-  pub record Writing (words₀ words : List A) (i : ℕ) (rest whole : List A) : Type 0 where
-    pub same-length : length words ≡ length words₀
-    pub front : take i words ++ rest ≡ whole
-    pub back : drop i words ≡ drop i words₀
+-- ---- one word for each outcome
 
-  pub writing-starts : (words whole : List A) → Writing words words 0 whole whole
-  writing-starts words whole = record { same-length = refl; front = refl; back = refl }
+pub plan-length : (os : List Outcome) → length (planIn os) ≡ length os
+unfolding planIn
+plan-length [] = refl
+plan-length (o ∷ os) = ap suc (plan-length os)
 
-  pub writing-steps : (words₀ words : List A) (i : ℕ) (x : A) (rest whole : List A)
-      → Writing words₀ words i (x ∷ rest) whole → i < length words → Writing words₀ (set words i x) (i + 1) rest whole
-  writing-steps words₀ words i x rest whole w h =
+pub outcomes-length : (rule : Rule) (n t : ℕ) (ps : List ℕ) (es : List Entry) → length (outcomes rule n t ps es) ≡ length ps
+unfolding outcomes
+outcomes-length rule n t [] es = refl
+outcomes-length rule n t (p ∷ ps) es = ap suc (outcomes-length rule n (suc t) ps _)
+
+-- with room for all of it the list is laid whole
+pub laid-whole : (list words : List ℕ) → length list ≤ length words → laid list words ≡ list ++ drop (length list) words
+laid-whole list words h = ap (λ (xs : List ℕ). xs ++ drop (length list) words) (take-all (length words) list h)
+
+fault-most : (o : Outcome) → faultOf o ≤ 1
+fault-most Hit = omega arith
+fault-most Loaded = omega arith
+fault-most (Dropped p) = omega arith
+
+-- ---- the loop
+
+pub record Reading (whole left : List Outcome) (words₀ words : List ℕ) (f i : ℕ) : Type 0 where
+  pub few : f ≤ i
+  pub counted : f + faultsIn left ≡ faultsIn whole
+  pub same-length : length words ≡ length words₀
+  pub front : take i words ++ take (length words - i) (planIn left) ≡ take (length words) (planIn whole)
+  pub back : drop i words ≡ drop i words₀
+
+pub reading-starts : (whole : List Outcome) (words : List ℕ) → Reading whole whole words words 0 0
+reading-starts whole words =
+    let e : length words - 0 ≡ length words = omega arith in
+    record { few = omega arith; counted = omega arith; same-length = refl; front = ap (λ (k : ℕ). take k (planIn whole)) e; back = refl }
+
+module _ (whole : List Outcome) (o : Outcome) (left : List Outcome) (words₀ words : List ℕ) (f i : ℕ) (r : Reading whole (o ∷ left) words₀ words f i) where
+  front-steps : take (suc i) (set words i (wordOf o)) ++ take (length words - suc i) (planIn left) ≡ take i words ++ take (length words - i) (wordOf o ∷ planIn left)
+  front-steps = elim (decLt i (length words)) [ yes h ↦ inside h | no h ↦ past (omega arith) ]
+    where
+      inside : i < length words
+          → take (suc i) (set words i (wordOf o)) ++ take (length words - suc i) (planIn left) ≡ take i words ++ take (length words - i) (wordOf o ∷ planIn left)
+      inside h =
+          let e : length words - i ≡ suc (length words - suc i) = omega arith in
+          ap (λ (xs : List ℕ). xs ++ take (length words - suc i) (planIn left)) (take-suc-set words i (wordOf o) h)
+          ∙ append-snoc (take i words) (wordOf o) (take (length words - suc i) (planIn left))
+          ∙ ap (λ (k : ℕ). take i words ++ take k (wordOf o ∷ planIn left)) (sym e)
+
+      past : length words ≤ i
+          → take (suc i) (set words i (wordOf o)) ++ take (length words - suc i) (planIn left) ≡ take i words ++ take (length words - i) (wordOf o ∷ planIn left)
+      past h =
+          let a : length words - i ≡ 0 = omega arith in
+          let b : length words - suc i ≡ 0 = omega arith in
+          rw (a, b, set-out words i (wordOf o) h, take-all i words h, take-all (suc i) words (let k : length words ≤ suc i = omega arith in k))
+
+  pub reading-steps : Reading whole left words₀ (set words i (wordOf o)) (f + faultOf o) (i + 1)
+  unfolding faultsIn planIn
+  reading-steps =
       record {
-        same-length = length-set words i x ∙ w .same-length;
-        front =
-            ap (λ (k : ℕ). take k (set words i x) ++ rest) (add-one i)
-            ∙ ap (λ (xs : List A). xs ++ rest) (take-suc-set words i x h)
-            ∙ append-snoc (take i words) x rest
-            ∙ w .front;
+        few = omega (arith, r .few, fault-most o);
+        counted = omega (arith, r .counted);
+        same-length = length-set words i (wordOf o) ∙ r .same-length;
+        front = rw (length-set words i (wordOf o), add-one i) (front-steps ∙ r .front);
         back =
-            drop-set-lt (i + 1) words i x (omega arith)
+            drop-set-lt (i + 1) words i (wordOf o) (omega arith)
             ∙ sym (drop-drop 1 i words)
-            ∙ ap (drop 1) (w .back)
+            ∙ ap (drop 1) (r .back)
             ∙ drop-drop 1 i words₀;
       }
 
-  pub writing-ends : (words₀ words : List A) (i : ℕ) (whole : List A) → Writing words₀ words i [] whole → words ≡ whole ++ drop i words₀
-  writing-ends words₀ words i whole w =
-      sym (take-append-drop i words) ∙ ap (λ (xs : List A). take i words ++ xs) (w .back)
-      ∙ ap (λ (xs : List A). xs ++ drop i words₀) (sym (append-nil (take i words)) ∙ w .front)
+pub reading-ends : (whole : List Outcome) (words₀ words : List ℕ) (f i : ℕ) → Reading whole [] words₀ words f i → i ≡ length whole
+    → (f ≡ faultsIn whole) × (words ≡ laid (planIn whole) words₀)
+unfolding faultsIn planIn
+reading-ends whole words₀ words f i r e =
+    let size : length words ≡ length words₀ = r .same-length in
+    let past : i ≡ length (planIn whole) = e ∙ sym (plan-length whole) in (
+      omega (arith, r .counted),
+      sym (take-append-drop i words)
+          ∙ ap₂ (λ (xs ys : List ℕ). xs ++ ys)
+          (sym (append-nil (take i words)) ∙ ap (λ (xs : List ℕ). take i words ++ xs) (sym (take-nil (length words - i))) ∙ r .front ∙ ap (λ (k : ℕ). take k (planIn whole)) size)
+          (r .back ∙ ap (λ (k : ℕ). drop k words₀) past),
+    )

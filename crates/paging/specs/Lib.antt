@@ -4,4 +4,5 @@ pub mod Rules
 pub mod Walk
 pub mod Plans
 pub mod Calls
+pub mod Services
 pub mod Cases
