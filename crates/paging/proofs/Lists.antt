@@ -2,7 +2,7 @@
 --
 -- In order: truth values; the place that a test finds; some and all; the least of those that pass a test; one element more; one element stored.
 -- Assumes nothing.
-use mathlib.Core.Path.{_≡_, refl, sym, ap, _∙_, subst}
+use mathlib.Core.Path.{_≡_, refl, sym, ap, ap₂, _∙_}
 use mathlib.Core.Logic.{_⊎_, inl, inr, ⊎-elim}
 use mathlib.Core.Bool.{Bool, true, false}
 use mathlib.Core.List.{List, [], _∷_, _++_, map}
@@ -235,7 +235,18 @@ module _ {A B : Type 0} (f : A → B) where
     any-map [] = refl
     any-map (x ∷ xs) = ap (λ (r : Bool). pick (test (f x)) true r) (any-map xs)
 
+    pub all-map : (xs : List A) → all test (map f xs) ≡ all (λ (x : A). test (f x)) xs
+    unfolding all
+    all-map [] = refl
+    all-map (x ∷ xs) = ap (λ (r : Bool). pick (test (f x)) r false) (all-map xs)
+
     pub index-map : (xs : List A) → indexOf test (map f xs) ≡ indexOf (λ (x : A). test (f x)) xs
     unfolding indexOf
     index-map [] = refl
     index-map (x ∷ xs) = ap (λ (r : ℕ). pick (test (f x)) 0 (suc r)) (index-map xs)
+
+-- two tests that agree find the same place
+pub index-same : {A : Type 0} (f g : A → Bool) → ((x : A) → f x ≡ g x) → (xs : List A) → indexOf f xs ≡ indexOf g xs
+unfolding indexOf
+index-same f g e [] = refl
+index-same f g e (x ∷ xs) = ap₂ (λ (b : Bool) (k : ℕ). pick b 0 (suc k)) (e x) (index-same f g e xs)

@@ -1,0 +1,135 @@
+-- MIN's walk over pages alone is the walk of rule 3; and the page that goes first is unique.
+-- Assumes nothing.
+use mathlib.Core.Path.{_≡_, refl, sym, ap, ap₂, _∙_}
+use mathlib.Core.Logic.{_⊎_, inl, inr, ⊎-elim}
+use mathlib.Core.Bool.{Bool, true, false}
+use mathlib.Core.List.{List, [], _∷_, _++_, map}
+use Prim.Native.Nat.{ℕ, zero, suc, _+_, _≤_, _<_}
+use native.Mathlib.Omega.{arith}
+use lib.Dec.{eqb, ltb, leb}
+use lib.ListN.{length, getD, set}
+use borrow.Author.Tests.{lt-ltb, le-ltb, leb-true, le-leb, eqb-true, eqb-false, eq-eqb}
+use Rattle.paging.specs.Lists.{pick, both, implies, all, indexOf}
+use Rattle.paging.specs.Rules.{nextOf, never, minDrops, drops, chosen}
+use Rattle.paging.specs.Walk.{holds, frameOf, entryAt, pages, loadedAt, renewed, outcome, next, outcomes}
+use Rattle.paging.specs.Plans.{mem}
+use Rattle.paging.specs.declared.Page.{Page}
+use Rattle.paging.specs.declared.Entry.{Entry}
+use Rattle.paging.specs.declared.Rule.the-variants.{Min}
+use Rattle.paging.specs.declared.Outcome.{Outcome}
+use Rattle.paging.specs.declared.Outcome.the-variants.{Hit, Loaded, Dropped}
+use Rattle.paging.proofs.Lists.{bool-cases, both-first, both-second, both-true, implied, implies-true, all-at, at-all, all-map, index-map, index-same, index-is, index-passes}
+use Rattle.paging.proofs.Choice.{next-le, never-next}
+use Rattle.paging.proofs.Held.{Apart}
+use Rattle.paging.proofs.Frames.{pages-length, pages-at, mem-pages, Ways, ways, outcome-hit, outcome-room, outcome-full, pages-hit, pages-room, pages-full}
+use Rattle.minimum.specs.Farthest.{goesFirst, farthest, minOutcome, minNext, minOutcomes}
+
+-- ---- the walk
+
+fits-same : (rest : List ℕ) (es : List Entry) (e : Entry) → minDrops rest es e ≡ goesFirst rest (pages es) (e .page .0)
+unfolding minDrops goesFirst
+fits-same rest es e =
+    ap₂ (λ (a b : Bool). both a (implies (never rest (e .page .0)) b))
+    (sym (all-map (λ (d : Entry). d .page .0) (λ (d : ℕ). leb (nextOf rest d) (nextOf rest (e .page .0))) es))
+    (sym (all-map (λ (d : Entry). d .page .0) (λ (d : ℕ). implies (never rest d) (leb (e .page .0) d)) es))
+
+chosen-same : (rest : List ℕ) (es : List Entry) → chosen Min rest es ≡ farthest rest (pages es)
+unfolding chosen drops farthest
+chosen-same rest es =
+    index-same (minDrops rest es) (λ (e : Entry). goesFirst rest (pages es) (e .page .0)) (fits-same rest es) es
+    ∙ sym (index-map (λ (e : Entry). e .page .0) (goesFirst rest (pages es)) es)
+
+outcome-same : (n p : ℕ) (rest : List ℕ) (es : List Entry) → outcome Min n p rest es ≡ minOutcome n p rest (pages es)
+unfolding outcome minOutcome
+outcome-same n p rest es =
+    rw (mem-pages p es, pages-length es, ← chosen-same rest es, pages-at es (chosen Min rest es))
+
+next-same : (n t p : ℕ) (rest : List ℕ) (es : List Entry) → pages (next Min n t p rest es) ≡ minNext n p rest (pages es)
+unfolding minNext
+next-same n t p rest es = go (ways n p es)
+  where
+    go : Ways n p es → pages (next Min n t p rest es) ≡ minNext n p rest (pages es)
+    go (inl q) = rw (pages-hit Min n t p rest es q, mem-pages p es, q)
+    go (inr (inl (q, h))) = rw (pages-room Min n t p rest es q h, mem-pages p es, q, pages-length es, lt-ltb (length es) n h)
+    go (inr (inr (q, h))) = rw (pages-full Min n t p rest es q h, mem-pages p es, q, pages-length es, le-ltb (length es) n h, chosen-same rest es)
+
+-- THE WALK OF RULE 3, over pages
+pub min-walks : (n : ℕ) (ps : List ℕ) (t : ℕ) (es : List Entry) → outcomes Min n t ps es ≡ minOutcomes n ps (pages es)
+unfolding outcomes minOutcomes
+min-walks n [] t es = refl
+min-walks n (p ∷ ps) t es =
+    ap₂ (λ (o : Outcome) (os : List Outcome). o ∷ os) (outcome-same n p ps es)
+    (min-walks n ps (suc t) (next Min n t p ps es) ∙ ap (minOutcomes n ps) (next-same n t p ps es))
+
+-- ---- the page that goes first
+
+module _ (rest held : List ℕ) where
+  -- its next request is latest
+  first-latest : (q : ℕ) → goesFirst rest held q ≡ true → (j : ℕ) → j < length held → nextOf rest (getD held j 0) ≤ nextOf rest q
+  unfolding goesFirst
+  first-latest q e j h =
+      leb-true _ _ (all-at (λ (d : ℕ). leb (nextOf rest d) (nextOf rest q)) 0 held (both-first (all (λ (d : ℕ). leb (nextOf rest d) (nextOf rest q)) held) _ e) j h)
+
+  -- among several never requested again it has the lowest number
+  first-lowest : (q : ℕ) → goesFirst rest held q ≡ true → never rest q ≡ true → (j : ℕ) → j < length held → never rest (getD held j 0) ≡ true → q ≤ getD held j 0
+  unfolding goesFirst
+  first-lowest q e n j h m =
+      let low : ℕ → Bool = λ (d : ℕ). implies (never rest d) (leb q d) in
+      let both-of : implies (never rest q) (all low held) ≡ true = both-second (all (λ (d : ℕ). leb (nextOf rest d) (nextOf rest q)) held) (implies (never rest q) (all low held)) e in
+      leb-true _ _ (implied (never rest (getD held j 0)) (leb q (getD held j 0)) (all-at low 0 held (implied (never rest q) (all low held) both-of n) j h) m)
+
+  is-first : (q : ℕ) → ((j : ℕ) → j < length held → nextOf rest (getD held j 0) ≤ nextOf rest q)
+    → (never rest q ≡ true → (j : ℕ) → j < length held → never rest (getD held j 0) ≡ true → q ≤ getD held j 0) → goesFirst rest held q ≡ true
+  unfolding goesFirst
+  is-first q latest lowest =
+      both-true _ _ (at-all (λ (d : ℕ). leb (nextOf rest d) (nextOf rest q)) 0 held (λ j h. le-leb _ _ (latest j h)))
+      (implies-true _ _ (λ n. at-all (λ (d : ℕ). implies (never rest d) (leb q d)) 0 held (λ j h. implies-true _ _ (λ m. le-leb _ _ (lowest n j h m)))))
+
+  -- pages with the same next request, other than never, are the same
+  same-next : (p q : ℕ) → nextOf rest p ≡ nextOf rest q → never rest p ≡ false → p ≡ q
+  unfolding nextOf never
+  same-next p q e n =
+      let k : nextOf rest p < length rest = below (next-le rest p) (eqb-false _ _ n) in
+      let l : nextOf rest q < length rest = omega arith in
+      sym (eqb-true _ _ (index-passes (λ (x : ℕ). eqb x p) 0 rest k))
+      ∙ ap (λ (i : ℕ). getD rest i 0) e
+      ∙ eqb-true _ _ (index-passes (λ (x : ℕ). eqb x q) 0 rest l)
+    where
+      below : {a b : ℕ} → a ≤ b → (a ≡ b → ⊥) → a < b
+      below h x = omega arith
+
+  -- in different frames stand different pages, so only one page goes first
+  pub first-one : Apart held → (i j : ℕ) → i < length held → j < length held
+    → goesFirst rest held (getD held i 0) ≡ true → goesFirst rest held (getD held j 0) ≡ true → i ≡ j
+  unfolding never
+  first-one apart i j h k a b =
+      let p : ℕ = getD held i 0 in
+      let q : ℕ = getD held j 0 in
+      let e : nextOf rest p ≡ nextOf rest q = omega (arith, first-latest p a j k, first-latest q b i h) in
+      apart i j h k (⊎-elim (gone e) (λ n. same-next p q e n) (bool-cases (never rest p)))
+    where
+      gone : nextOf rest (getD held i 0) ≡ nextOf rest (getD held j 0) → never rest (getD held i 0) ≡ true → getD held i 0 ≡ getD held j 0
+      gone e n =
+          let m : never rest (getD held j 0) ≡ true = ap (λ (x : ℕ). eqb x (length rest)) (sym e) ∙ n in
+          omega (arith, first-lowest (getD held i 0) a n j k m, first-lowest (getD held j 0) b m i h n)
+
+  -- the frame whose turn is latest, and of several with the same turn the lowest page number, is the one that goes
+  pub farthest-is : Apart held → (s : ℕ) (turn : ℕ → ℕ) → ((j : ℕ) → j < length held → turn j ≡ s + nextOf rest (getD held j 0))
+    → (best : ℕ) → best < length held
+    → ((j : ℕ) → j < length held → (turn j < turn best) ⊎ ((turn j ≡ turn best) × (getD held best 0 ≤ getD held j 0)))
+    → farthest rest held ≡ best
+  unfolding farthest
+  farthest-is apart s turn in-turn best h far =
+      index-is (goesFirst rest held) 0 held best h first (λ j k e. first-one apart j best k h e first)
+    where
+      q : ℕ
+      q = getD held best 0
+      latest : (j : ℕ) → j < length held → nextOf rest (getD held j 0) ≤ nextOf rest q
+      latest j k = ⊎-elim (λ l. omega (arith, in-turn j k, in-turn best h)) (λ l. omega (arith, in-turn j k, in-turn best h)) (far j k)
+      lowest : never rest q ≡ true → (j : ℕ) → j < length held → never rest (getD held j 0) ≡ true → q ≤ getD held j 0
+      lowest n j k m =
+          ⊎-elim
+          (λ l. absurd (omega (arith, in-turn j k, in-turn best h, never-next rest q n, never-next rest (getD held j 0) m)))
+          (λ l. l .1) (far j k)
+      first : goesFirst rest held q ≡ true
+      first = is-first q latest lowest
