@@ -8,11 +8,11 @@ use Prim.Native.Nat.{ℕ, zero, suc, _+_, _≤_, _<_}
 use native.Mathlib.Omega.{arith}
 use lib.Dec.{eqb, ltb, leb}
 use lib.ListN.{length, getD, set}
-use borrow.Author.Tests.{lt-ltb, le-ltb, leb-true, le-leb, eqb-true, eqb-false, eq-eqb}
+use borrow.Author.Tests.{lt-ltb, le-ltb, leb-true, le-leb, eqb-true, eqb-false, ne-eqb}
 use Rattle.paging.specs.Lists.{pick, both, implies, all, indexOf}
 use Rattle.paging.specs.Rules.{nextOf, never, minDrops, drops, chosen}
 use Rattle.paging.specs.Walk.{holds, frameOf, entryAt, pages, loadedAt, renewed, outcome, next, outcomes}
-use Rattle.paging.specs.Plans.{mem}
+use Rattle.paging.specs.Plans.{mem, placeOf}
 use Rattle.paging.specs.declared.Page.{Page}
 use Rattle.paging.specs.declared.Entry.{Entry}
 use Rattle.paging.specs.declared.Rule.the-variants.{Min}
@@ -60,6 +60,18 @@ min-walks n [] t es = refl
 min-walks n (p ∷ ps) t es =
     ap₂ (λ (o : Outcome) (os : List Outcome). o ∷ os) (outcome-same n p ps es)
     (min-walks n ps (suc t) (next Min n t p ps es) ∙ ap (minOutcomes n ps) (next-same n t p ps es))
+
+-- ---- how far off a page's next request is
+
+-- it is where the page stands in the requests to come
+pub place-next : (p : ℕ) (rest : List ℕ) → placeOf p rest ≡ nextOf rest p
+unfolding placeOf nextOf
+place-next p rest = refl
+
+-- a request for another page brings it one nearer
+pub next-nearer : (q p : ℕ) (rest : List ℕ) → (p ≡ q → ⊥) → nextOf (p ∷ rest) q ≡ suc (nextOf rest q)
+unfolding nextOf
+next-nearer q p rest e = rw (ne-eqb p q e)
 
 -- ---- the page that goes first
 

@@ -1,1 +1,3 @@
 pub mod Farthest
+pub mod Scan
+pub mod Serving

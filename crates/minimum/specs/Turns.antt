@@ -2,14 +2,23 @@
 -- Assumes nothing.
 use mathlib.Core.Path.{_≡_}
 use mathlib.Core.List.{List}
+use mathlib.Core.Bool.{Bool, true, false}
 use Prim.Native.Nat.{ℕ, _+_, _≤_, _<_}
+use lib.Dec.{ltb}
 use lib.ListN.{length, getD, take, drop, set}
+use Rattle.paging.specs.Lists.{pick}
 use Rattle.paging.specs.Rules.{nextOf}
+use Rattle.paging.specs.declared.Outcome.{Outcome}
 use Rattle.minimum.specs.declared.Kept.{Kept}
+use Rattle.minimum.specs.Farthest.{minOutcome, minNext}
 
 -- the moment of page p's next request from moment t on
 abbrev pub turnOf : List ℕ → ℕ → ℕ → ℕ
 turnOf trace t p = t + nextOf (drop t trace) p
+
+-- a page goes before another: its turn is later, or the same and its number lower
+abbrev pub goesBefore : ℕ → ℕ → ℕ → ℕ → Bool
+goesBefore turn page other rival = pick (ltb other turn) true (pick (ltb turn other) false (ltb page rival))
 
 -- the held pages, in frame order
 abbrev pub pagesOf : Kept → List ℕ
@@ -21,6 +30,14 @@ putAt k at page turn count = record { pages = set (k .pages) at page; turns = se
 
 -- just before moment t: at most n pages, none twice, each beside its turn
 pub record Fair (n : ℕ) (trace : List ℕ) (t : ℕ) (k : Kept) : Type 0 where
+  pub wide : length (k .pages) ≡ 256
+  pub deep : length (k .turns) ≡ 256
   pub few : k .count ≤ n
   pub apart : (i j : ℕ) → i < k .count → j < k .count → getD (k .pages) i 0 ≡ getD (k .pages) j 0 → i ≡ j
   pub in-turn : (i : ℕ) → i < k .count → getD (k .turns) i 0 ≡ turnOf trace t (getD (k .pages) i 0)
+
+-- the request of moment t, served: its outcome, the pages held after it, each beside its turn
+pub record Stepped (n : ℕ) (trace : List ℕ) (t : ℕ) (k : Kept) (outcome : Outcome) (after : Kept) : Type 0 where
+  pub told : outcome ≡ minOutcome n (getD trace t 0) (drop (t + 1) trace) (pagesOf k)
+  pub held : pagesOf after ≡ minNext n (getD trace t 0) (drop (t + 1) trace) (pagesOf k)
+  pub fair : Fair n trace (t + 1) after

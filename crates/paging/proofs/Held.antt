@@ -35,6 +35,15 @@ mem-place p held e =
     let h : indexOf (λ (q : ℕ). eqb q p) held < length held = any-index (λ (q : ℕ). eqb q p) 0 held e in
     (h, eqb-true _ _ (index-passes (λ (q : ℕ). eqb q p) 0 held h))
 
+-- a place inside the list is the page's
+pub place-holds : (p : ℕ) (held : List ℕ) → placeOf p held < length held → getD held (placeOf p held) 0 ≡ p
+unfolding placeOf
+place-holds p held h = eqb-true _ _ (index-passes (λ (q : ℕ). eqb q p) 0 held h)
+
+-- a place past its end is nobody's
+pub place-out : (p : ℕ) (held : List ℕ) → length held ≤ placeOf p held → mem p held ≡ false
+place-out p held h = ⊎-elim (λ e. absurd (let (k, g) = mem-place p held e in omega arith)) (λ e. e) (bool-cases (mem p held))
+
 pub mem-in : (p : ℕ) (held : List ℕ) → mem p held ≡ true → In p held
 mem-in p held e = let (h, g) = mem-place p held e in (placeOf p held, h, g)
 

@@ -1,0 +1,17 @@
+-- `minimum::beyond` meets its contract.
+-- Assumes nothing.
+use Rattle.paging.proofs.Picks.{picks}
+use Rattle.minimum.proofs.beyond.Statement.{statement}
+use Rattle.minimum.proofs.beyond.Tie as tie
+
+returns : tie.Need-returns
+returns c = search picks
+
+returns-2 : tie.Need-returns-2
+returns-2 c = search picks
+
+returns-3 : tie.Need-returns-3
+returns-3 c = search picks
+
+pub beyond-spec : {M : Type 1} → statement M
+beyond-spec = tie.close (tie.spec returns returns-2 returns-3)

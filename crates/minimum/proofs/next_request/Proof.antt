@@ -1,0 +1,64 @@
+-- `minimum::next_request` meets its contract: a page's turn is as far off as its place in the requests to come.
+-- Assumes nothing.
+use mathlib.Core.Path.{_≡_, ap, _∙_}
+use Prim.Native.Nat.{ℕ, _+_, _-_, _≤_}
+use native.Mathlib.Omega.{arith}
+use lib.ListN.{length, drop, length-drop}
+use lib.Seq.{take-all}
+use borrow.Author.Needs.{needs}
+use Rattle.paging.specs.Rules.{nextOf}
+use Rattle.paging.specs.Plans.{placeOf}
+use Rattle.paging.proofs.Choice.{next-le}
+use Rattle.minimum.proofs.Farthest.{place-next}
+use Rattle.minimum.proofs.next_request.Statement.{statement}
+use Rattle.minimum.proofs.next_request.Tie as tie
+
+-- how far off the page is found
+off : (c : tie.After-place-of)
+  → (c .place-of .result ≡ nextOf (drop (c .before .before .before .args .from) (c .before .before .before .args .trace .now)) (c .before .before .before .args .page))
+    × (c .before .before .before .args .from + c .place-of .result ≤ length (c .before .before .before .args .trace .now))
+off c =
+    let s = c .before .before .before in
+    let trace = s .args .trace .now in
+    let rest = drop (s .args .from) trace in
+    let short : length rest ≤ length trace - s .args .from = omega (arith, length-drop (s .args .from) trace) in
+    let e : c .place-of .result ≡ nextOf rest (s .args .page) =
+          c .place-of .ensures ∙ ap (placeOf (s .args .page)) (take-all _ rest short) ∙ place-next (s .args .page) rest in
+    (e, omega (arith, next-le rest (s .args .page), length-drop (s .args .from) trace))
+
+mul-later : tie.Need-mul-later
+mul-later c = search needs
+
+sub-later : tie.Need-sub-later
+sub-later c = search needs
+
+part-later-start : tie.Need-part-later-start
+part-later-start c = search needs
+
+part-later-end : tie.Need-part-later-end
+part-later-end c = search needs
+
+place-of-requires : tie.Need-place-of-requires
+place-of-requires c κs = search needs
+
+add-result : tie.Need-add-result
+add-result c = omega (arith, off c .1)
+
+cast-result : tie.Need-cast-result
+cast-result c = omega (arith, off c .1)
+
+returns : tie.Need-returns
+returns c = (ap (λ (k : ℕ). c .before .before .before .args .from + k) (off c .0), off c .1)
+
+pub next-request-spec : {M : Type 1} → statement M
+next-request-spec =
+    tie.close
+    (tie.spec
+    mul-later
+    sub-later
+    part-later-start
+    part-later-end
+    place-of-requires
+    add-result
+    cast-result
+    returns)
