@@ -3,36 +3,13 @@ ghost use mathlib.Core.Path.{_≡_};
 ghost use mathlib.Core.Bool.{true, false};
 ghost use Prim.Native.Nat.{_+_, _≤_};
 ghost use lib.ListN.{length};
-ghost use Rattle.paging.specs.Walk.{faultOf, wordOf, faultsIn, planIn};
+ghost use Rattle.paging.specs.Walk.{faultsIn, planIn};
 ghost use Rattle.paging.specs.Calls.{marked};
 ghost use Rattle.paging.specs.Services.{laid};
 ghost use Rattle.cache.specs.Sound.{sound};
 ghost use Rattle.cache.specs.Step.{outcomesFrom};
 use crate::Cache;
-use paging::Outcome;
 use paging::Page;
-
-// A fault is a request whose page isn't held, whether or not something is dropped.
-fn fault(o: Outcome) -> u32
-    ensures { λ r. ⌜ r ≡ faultOf o ⌝ }
-{
-    match o {
-        Outcome::Hit => 0,
-        Outcome::Loaded => 1,
-        Outcome::Dropped(_) => 1,
-    }
-}
-
-// The plan's word: the page to drop, or the mark.
-fn word(o: Outcome) -> u32
-    ensures { λ r. ⌜ r ≡ wordOf o ⌝ }
-{
-    match o {
-        Outcome::Hit => paging::MARK,
-        Outcome::Loaded => paging::MARK,
-        Outcome::Dropped(p) => p.0,
-    }
-}
 
 // Feeds a trace to a record: its faults, and as much of its plan as there are lent words for. With no words it only counts.
 fn run_from(start: Cache, trace: &[u32], words: &mut [u32]) -> u32
@@ -45,9 +22,9 @@ fn run_from(start: Cache, trace: &[u32], words: &mut [u32]) -> u32
     while i < trace.len() {
         let a = cur.serve(Page(trace[i]));
         let o = a.outcome;
-        faults += fault(o);
+        faults += o.fault();
         if i < words.len() {
-            words[i] = word(o);
+            words[i] = o.word();
         }
         cur = a.next;
         i += 1;

@@ -91,7 +91,7 @@ module _ (rest held : List ℕ) where
       leb-true _ _ (implied (never rest (getD held j 0)) (leb q (getD held j 0)) (all-at low 0 held (implied (never rest q) (all low held) both-of n) j h) m)
 
   is-first : (q : ℕ) → ((j : ℕ) → j < length held → nextOf rest (getD held j 0) ≤ nextOf rest q)
-    → (never rest q ≡ true → (j : ℕ) → j < length held → never rest (getD held j 0) ≡ true → q ≤ getD held j 0) → goesFirst rest held q ≡ true
+      → (never rest q ≡ true → (j : ℕ) → j < length held → never rest (getD held j 0) ≡ true → q ≤ getD held j 0) → goesFirst rest held q ≡ true
   unfolding goesFirst
   is-first q latest lowest =
       both-true _ _ (at-all (λ (d : ℕ). leb (nextOf rest d) (nextOf rest q)) 0 held (λ j h. le-leb _ _ (latest j h)))
@@ -112,7 +112,7 @@ module _ (rest held : List ℕ) where
 
   -- in different frames stand different pages, so only one page goes first
   pub first-one : Apart held → (i j : ℕ) → i < length held → j < length held
-    → goesFirst rest held (getD held i 0) ≡ true → goesFirst rest held (getD held j 0) ≡ true → i ≡ j
+      → goesFirst rest held (getD held i 0) ≡ true → goesFirst rest held (getD held j 0) ≡ true → i ≡ j
   unfolding never
   first-one apart i j h k a b =
       let p : ℕ = getD held i 0 in
@@ -127,21 +127,24 @@ module _ (rest held : List ℕ) where
 
   -- the frame whose turn is latest, and of several with the same turn the lowest page number, is the one that goes
   pub farthest-is : Apart held → (s : ℕ) (turn : ℕ → ℕ) → ((j : ℕ) → j < length held → turn j ≡ s + nextOf rest (getD held j 0))
-    → (best : ℕ) → best < length held
-    → ((j : ℕ) → j < length held → (turn j < turn best) ⊎ ((turn j ≡ turn best) × (getD held best 0 ≤ getD held j 0)))
-    → farthest rest held ≡ best
+      → (best : ℕ) → best < length held
+      → ((j : ℕ) → j < length held → (turn j < turn best) ⊎ ((turn j ≡ turn best) × (getD held best 0 ≤ getD held j 0)))
+      → farthest rest held ≡ best
   unfolding farthest
   farthest-is apart s turn in-turn best h far =
       index-is (goesFirst rest held) 0 held best h first (λ j k e. first-one apart j best k h e first)
     where
       q : ℕ
       q = getD held best 0
+
       latest : (j : ℕ) → j < length held → nextOf rest (getD held j 0) ≤ nextOf rest q
       latest j k = ⊎-elim (λ l. omega (arith, in-turn j k, in-turn best h)) (λ l. omega (arith, in-turn j k, in-turn best h)) (far j k)
+
       lowest : never rest q ≡ true → (j : ℕ) → j < length held → never rest (getD held j 0) ≡ true → q ≤ getD held j 0
       lowest n j k m =
           ⊎-elim
           (λ l. absurd (omega (arith, in-turn j k, in-turn best h, never-next rest q n, never-next rest (getD held j 0) m)))
           (λ l. l .1) (far j k)
+
       first : goesFirst rest held q ≡ true
       first = is-first q latest lowest

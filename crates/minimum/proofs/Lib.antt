@@ -1,3 +1,4 @@
 pub mod Farthest
 pub mod Scan
 pub mod Serving
+pub mod Running

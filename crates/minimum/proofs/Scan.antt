@@ -25,12 +25,12 @@ module _ (turns pages : List ℕ) where
 
   -- what the test says of two frames
   goes-true : (i b : ℕ) → goesBefore (getD turns i 0) (getD pages i 0) (getD turns b 0) (getD pages b 0) ≡ true
-    → (getD turns b 0 < getD turns i 0) ⊎ ((getD turns b 0 ≡ getD turns i 0) × (getD pages i 0 < getD pages b 0))
+      → (getD turns b 0 < getD turns i 0) ⊎ ((getD turns b 0 ≡ getD turns i 0) × (getD pages i 0 < getD pages b 0))
   goes-true i b = go (ltb (getD turns b 0) (getD turns i 0)) (ltb (getD turns i 0) (getD turns b 0)) refl refl
     where
       go : (x y : Bool) → ltb (getD turns b 0) (getD turns i 0) ≡ x → ltb (getD turns i 0) (getD turns b 0) ≡ y
-        → pick x true (pick y false (ltb (getD pages i 0) (getD pages b 0))) ≡ true
-        → (getD turns b 0 < getD turns i 0) ⊎ ((getD turns b 0 ≡ getD turns i 0) × (getD pages i 0 < getD pages b 0))
+          → pick x true (pick y false (ltb (getD pages i 0) (getD pages b 0))) ≡ true
+          → (getD turns b 0 < getD turns i 0) ⊎ ((getD turns b 0 ≡ getD turns i 0) × (getD pages i 0 < getD pages b 0))
       go true y p q e = inl (ltb-true _ _ p)
       go false true p q e = absurd (false≢true e)
       go false false p q e = inr (omega (arith, ltb-false (getD turns b 0) (getD turns i 0) p, ltb-false (getD turns i 0) (getD turns b 0) q), ltb-true _ _ e)
@@ -39,14 +39,14 @@ module _ (turns pages : List ℕ) where
   goes-false i b = go (ltb (getD turns b 0) (getD turns i 0)) (ltb (getD turns i 0) (getD turns b 0)) refl refl
     where
       go : (x y : Bool) → ltb (getD turns b 0) (getD turns i 0) ≡ x → ltb (getD turns i 0) (getD turns b 0) ≡ y
-        → pick x true (pick y false (ltb (getD pages i 0) (getD pages b 0))) ≡ false → Behind turns pages i b
+          → pick x true (pick y false (ltb (getD pages i 0) (getD pages b 0))) ≡ false → Behind turns pages i b
       go true y p q e = absurd (true≢false e)
       go false true p q e = inl (ltb-true _ _ q)
       go false false p q e = inr (omega (arith, ltb-false (getD turns b 0) (getD turns i 0) p, ltb-false (getD turns i 0) (getD turns b 0) q), ltb-false _ _ e)
 
   -- one frame more: it becomes the best, or the best stays
   pub behind-new : (i b : ℕ) → ((j : ℕ) → j < i → Behind turns pages j b)
-    → goesBefore (getD turns i 0) (getD pages i 0) (getD turns b 0) (getD pages b 0) ≡ true → (j : ℕ) → j < i + 1 → Behind turns pages j i
+      → goesBefore (getD turns i 0) (getD pages i 0) (getD turns b 0) (getD pages b 0) ≡ true → (j : ℕ) → j < i + 1 → Behind turns pages j i
   behind-new i b far e j h =
       elim (ℕ-discrete j i)
       [ yes x ↦ rw x (inr (refl, omega arith)) | no x ↦ go (far j (omega arith)) (goes-true i b e) ]
@@ -58,5 +58,5 @@ module _ (turns pages : List ℕ) where
       go (inr x) (inr y) = inr (omega arith, omega arith)
 
   pub behind-old : (i b : ℕ) → ((j : ℕ) → j < i → Behind turns pages j b)
-    → goesBefore (getD turns i 0) (getD pages i 0) (getD turns b 0) (getD pages b 0) ≡ false → (j : ℕ) → j < i + 1 → Behind turns pages j b
+      → goesBefore (getD turns i 0) (getD pages i 0) (getD turns b 0) (getD pages b 0) ≡ false → (j : ℕ) → j < i + 1 → Behind turns pages j b
   behind-old i b far e j h = elim (ℕ-discrete j i) [ yes x ↦ rw x (goes-false i b e) | no x ↦ far j (omega arith) ]

@@ -5,7 +5,7 @@ use mathlib.Core.List.{List}
 use mathlib.Core.Bool.{Bool, true, false}
 use Prim.Native.Nat.{ℕ, _+_, _≤_, _<_}
 use lib.Dec.{ltb}
-use lib.ListN.{length, getD, take, drop, set}
+use lib.ListN.{length, getD, take, drop, set, replicate}
 use Rattle.paging.specs.Lists.{pick}
 use Rattle.paging.specs.Rules.{nextOf}
 use Rattle.paging.specs.declared.Outcome.{Outcome}
@@ -23,6 +23,10 @@ goesBefore turn page other rival = pick (ltb other turn) true (pick (ltb turn ot
 -- the held pages, in frame order
 abbrev pub pagesOf : Kept → List ℕ
 pagesOf k = take (k .count) (k .pages)
+
+-- nothing held
+abbrev pub noneKept : Kept
+noneKept = record { pages = replicate 256 0; turns = replicate 256 0; count = 0 }
 
 -- a page and its turn written into a frame
 abbrev pub putAt : Kept → ℕ → ℕ → ℕ → ℕ → Kept

@@ -3,8 +3,13 @@ ghost use mathlib.Core.Path.{_≡_};
 ghost use mathlib.Core.Logic.{_⊎_};
 ghost use Prim.Native.Nat.{ℕ, _≤_, _<_};
 ghost use lib.ListN.{length, getD};
-ghost use Rattle.minimum.specs.Turns.{turnOf, goesBefore, putAt, Fair, Stepped};
-
+ghost use Rattle.paging.specs.Walk.{faults, plan};
+ghost use Rattle.paging.specs.Calls.{traceTests};
+ghost use Rattle.paging.specs.Services.{answered, laid, written};
+ghost use Rattle.paging.specs.declared.Rule.the-variants.{Min};
+ghost use Rattle.minimum.specs.Turns.{turnOf, goesBefore, noneKept, putAt, Fair, Stepped};
+use paging::Answer;
+use paging::Gate;
 use paging::Outcome;
 use paging::Page;
 
@@ -44,6 +49,17 @@ fn beyond(turn: u32, page: u32, other: u32, rival: u32) -> bool
 }
 
 impl Kept {
+    // Nothing held.
+    fn none() -> Kept
+        ensures { λ r. ⌜ r ≡ noneKept ⌝ }
+    {
+        Kept {
+            pages: [0; 256],
+            turns: [0; 256],
+            count: 0,
+        }
+    }
+
     // The frame whose turn is latest; of several with the same turn, that of the lowest page number.
     fn farthest(self) -> usize
         requires { ⌜ (0 < self .count) × (self .count ≤ 256) ⌝ }
@@ -53,7 +69,12 @@ impl Kept {
         let mut best: usize = 0;
         let mut i: usize = 1;
         while i < count {
-            if beyond(self.turns[i], self.pages[i], self.turns[best], self.pages[best]) {
+            if beyond(
+                self.turns[i],
+                self.pages[i],
+                self.turns[best],
+                self.pages[best],
+            ) {
                 best = i;
             }
             i += 1;
@@ -100,5 +121,36 @@ impl Kept {
             outcome: Outcome::Dropped(Page(pages[far])),
             next: self.put(far, page, turn, count),
         }
+    }
+}
+
+// Walks a trace from empty: its faults, and as much of its plan as there are lent words for. With no words it only counts.
+fn walked(n: u32, trace: &[u32], words: &mut [u32]) -> u32
+    requires { ⌜ (1 ≤ n) × (n ≤ 256) × (length (now trace) ≤ 8000) ⌝ }
+    ensures { λ r. ⌜ (r ≡ faults Min n (now (trace .entry))) × (now (words .exit) ≡ laid (plan Min n (now (trace .entry))) (now (words .entry))) ⌝ }
+{
+    let mut cur = Kept::none();
+    let mut faults: u32 = 0;
+    let mut i: usize = 0;
+    while i < trace.len() {
+        let a = cur.served(n, trace, i);
+        let o = a.outcome;
+        faults += o.fault();
+        if i < words.len() {
+            words[i] = o.word();
+        }
+        cur = a.next;
+        i += 1;
+    }
+    faults
+}
+
+// MIN's faults of a trace, or refusal 2, 3 or 4; as much of its plan as there are lent words for goes into them. A refusal keeps all words.
+pub fn run(n: u32, trace: &[u32], words: &mut [u32]) -> Answer
+    ensures { λ r. ⌜ (r ≡ answered (traceTests n (now (trace .entry))) Min n (now (trace .entry))) × (now (words .exit) ≡ written (traceTests n (now (trace .entry))) Min n (now (trace .entry)) (now (words .entry))) ⌝ }
+{
+    match calls::trace_gate(n, trace) {
+        Gate::No(refusal) => Answer::Refused(refusal),
+        Gate::Open => Answer::Faults(walked(n, trace, words)),
     }
 }

@@ -9,3 +9,4 @@ pub mod PlanRule
 pub mod Calls
 pub mod Picks
 pub mod Writing
+pub mod Services

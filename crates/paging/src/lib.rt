@@ -3,6 +3,7 @@
 ghost use mathlib.Core.Path.{_≡_};
 ghost use Rattle.paging.specs.Refusals.{table};
 ghost use Rattle.paging.specs.Rules.{ruleNumbered};
+ghost use Rattle.paging.specs.Walk.{faultOf, wordOf};
 
 // "No page" or "no moment", according to the field.
 pub const MARK: u32 = 4294967295;
@@ -63,6 +64,30 @@ pub enum Outcome {
     Hit,
     Loaded,
     Dropped(Page),
+}
+
+impl Outcome {
+    // A fault is a request whose page isn't held, whether or not something is dropped.
+    pub fn fault(self) -> u32
+        ensures { λ r. ⌜ r ≡ faultOf self ⌝ }
+    {
+        match self {
+            Outcome::Hit => 0,
+            Outcome::Loaded => 1,
+            Outcome::Dropped(_) => 1,
+        }
+    }
+
+    // The plan's word: the page to drop, or the mark.
+    pub fn word(self) -> u32
+        ensures { λ r. ⌜ r ≡ wordOf self ⌝ }
+    {
+        match self {
+            Outcome::Hit => MARK,
+            Outcome::Loaded => MARK,
+            Outcome::Dropped(page) => page.0,
+        }
+    }
 }
 
 // The twelve ways to say no, in the order of their numbers. A case holds its place where document 01 does not fix it.

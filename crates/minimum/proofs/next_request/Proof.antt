@@ -15,7 +15,7 @@ use Rattle.minimum.proofs.next_request.Tie as tie
 
 -- how far off the page is found
 off : (c : tie.After-place-of)
-  → (c .place-of .result ≡ nextOf (drop (c .before .before .before .args .from) (c .before .before .before .args .trace .now)) (c .before .before .before .args .page))
+    → (c .place-of .result ≡ nextOf (drop (c .before .before .before .args .from) (c .before .before .before .args .trace .now)) (c .before .before .before .args .page))
     × (c .before .before .before .args .from + c .place-of .result ≤ length (c .before .before .before .args .trace .now))
 off c =
     let s = c .before .before .before in
@@ -23,7 +23,7 @@ off c =
     let rest = drop (s .args .from) trace in
     let short : length rest ≤ length trace - s .args .from = omega (arith, length-drop (s .args .from) trace) in
     let e : c .place-of .result ≡ nextOf rest (s .args .page) =
-          c .place-of .ensures ∙ ap (placeOf (s .args .page)) (take-all _ rest short) ∙ place-next (s .args .page) rest in
+    c .place-of .ensures ∙ ap (placeOf (s .args .page)) (take-all _ rest short) ∙ place-next (s .args .page) rest in
     (e, omega (arith, next-le rest (s .args .page), length-drop (s .args .from) trace))
 
 mul-later : tie.Need-mul-later

@@ -61,19 +61,19 @@ loop-again c =
     let s = c .before .before .before .before .before .before .before .before in
     ⊎-elim
     (λ w.
-      rw (w .1)
-      ( omega arith
-      , omega arith
-      , loop .inv .2
-      , behind-new (s .args .t1 .turns) (s .args .t1 .pages) (loop .i) (loop .best) (loop .inv .3) (sym (c .before .beyond .ensures) ∙ w .0 .taken)
-      ))
+    rw (w .1) (
+      omega arith,
+      omega arith,
+      loop .inv .2,
+      behind-new (s .args .t1 .turns) (s .args .t1 .pages) (loop .i) (loop .best) (loop .inv .3) (sym (c .before .beyond .ensures) ∙ w .0 .taken),
+    ))
     (λ w.
-      rw (w .1)
-      ( omega arith
-      , omega arith
-      , loop .inv .2
-      , behind-old (s .args .t1 .turns) (s .args .t1 .pages) (loop .i) (loop .best) (loop .inv .3) (sym (c .before .beyond .ensures) ∙ w .0 .left)
-      ))
+    rw (w .1) (
+      omega arith,
+      omega arith,
+      loop .inv .2,
+      behind-old (s .args .t1 .turns) (s .args .t1 .pages) (loop .i) (loop .best) (loop .inv .3) (sym (c .before .beyond .ensures) ∙ w .0 .left),
+    ))
     (c .if1 .came)
 
 returns : tie.Need-returns Inv-loop μ-loop

@@ -1,0 +1,61 @@
+-- `minimum::run` meets its contract: an open gate gives what the walk asks for.
+-- Assumes nothing.
+use mathlib.Core.Path.{_≡_, sym, ap, _∙_}
+use borrow.Author.Needs.{needs}
+use Rattle.paging.specs.Calls.{gate, traceTests}
+use Rattle.paging.specs.declared.Rule.the-variants.{Min}
+use Rattle.paging.specs.declared.Gate.the-variants.{Open}
+use Rattle.paging.specs.declared.Answer.the-variants.{Faults}
+use Rattle.paging.proofs.Services.{answered-open, answered-no, written-open, written-no}
+use Rattle.calls.proofs.Chain.{InOrder, trace-open}
+use Rattle.minimum.proofs.run.Statement.{statement}
+use Rattle.minimum.proofs.run.Tie as tie
+
+-- the gate is open
+open-gate : (c : tie.After-enum-told)
+    → gate (traceTests (c .before .before .before .before .before .args .n) (c .before .before .before .before .before .args .trace .now)) ≡ Open
+open-gate c = sym (c .before .before .trace-gate .ensures) ∙ c .enum-told .given .1
+
+trace-gate-requires : tie.Need-trace-gate-requires
+trace-gate-requires c κs = search needs
+
+enum-known-refusal : tie.Need-enum-known-refusal
+enum-known-refusal c = search needs
+
+enum-told : tie.Need-enum-told
+enum-told c = search needs
+
+walked-requires : tie.Need-walked-requires
+walked-requires c κs =
+    let o : InOrder _ _ = trace-open _ _ .0 (open-gate (c .before)) in
+    (o .one-frame, o .frames, o .requests)
+
+returns : tie.Need-returns
+returns c =
+    let s = c .before .before .before .before .before .before in
+    let e = sym (c .before .before .before .trace-gate .ensures) ∙ c .before .refusal .given .1 in
+    (sym (answered-no _ Min _ _ _ e), sym (written-no _ Min _ _ (s .args .words .now) _ e))
+
+same-length : tie.Need-same-length
+same-length c = search needs
+
+returns-2 : tie.Need-returns-2
+returns-2 c =
+    let w = c .before .before in
+    let s = w .before .before .before .before .before .before .before in
+    let e = open-gate (w .before .before) in (
+      ap Faults (w .walked .ensures .0) ∙ sym (answered-open _ Min _ _ e),
+      w .walked .ensures .1 ∙ sym (written-open _ Min _ _ (s .args .words .now) e),
+    )
+
+pub run-spec : {M : Type 1} → statement M
+run-spec =
+    tie.close
+    (tie.spec
+    trace-gate-requires
+    enum-known-refusal
+    enum-told
+    walked-requires
+    returns
+    same-length
+    returns-2)

@@ -1,0 +1,34 @@
+-- Count and Write a plan, where the gate is open and where it is not.
+-- Assumes nothing.
+use mathlib.Core.Path.{_≡_, ap}
+use mathlib.Core.List.{List}
+use Prim.Native.Nat.{ℕ}
+use Rattle.paging.specs.Walk.{faults, plan}
+use Rattle.paging.specs.Plans.{through}
+use Rattle.paging.specs.Calls.{Test, gate}
+use Rattle.paging.specs.Services.{answered, laid, leftBy, written}
+use Rattle.paging.specs.declared.Rule.{Rule}
+use Rattle.paging.specs.declared.Gate.{Gate}
+use Rattle.paging.specs.declared.Gate.the-variants.{Open, No}
+use Rattle.paging.specs.declared.Answer.{Answer}
+use Rattle.paging.specs.declared.Answer.the-variants.{Faults, Refused}
+use Rattle.paging.specs.declared.Refusal.{Refusal}
+
+module _ (tests : List Test) (rule : Rule) (n : ℕ) (trace : List ℕ) where
+  -- nothing refused: the rule's faults, and its plan laid over the words
+  pub answered-open : gate tests ≡ Open → answered tests rule n trace ≡ Faults (faults rule n trace)
+  unfolding answered
+  answered-open e = ap (λ (g : Gate). through g (Faults (faults rule n trace))) e
+
+  pub written-open : (words : List ℕ) → gate tests ≡ Open → written tests rule n trace words ≡ laid (plan rule n trace) words
+  unfolding written
+  written-open words e = ap (λ (g : Gate). leftBy g (plan rule n trace) words) e
+
+  -- refused: the refusal, and the words as they were
+  pub answered-no : (refusal : Refusal) → gate tests ≡ No refusal → answered tests rule n trace ≡ Refused refusal
+  unfolding answered
+  answered-no refusal e = ap (λ (g : Gate). through g (Faults (faults rule n trace))) e
+
+  pub written-no : (words : List ℕ) (refusal : Refusal) → gate tests ≡ No refusal → written tests rule n trace words ≡ words
+  unfolding written
+  written-no words refusal e = ap (λ (g : Gate). leftBy g (plan rule n trace) words) e
