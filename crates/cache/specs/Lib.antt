@@ -1,3 +1,4 @@
 pub mod Record
 pub mod Sound
+pub mod Scan
 pub mod Feed

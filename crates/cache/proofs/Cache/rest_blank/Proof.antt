@@ -1,0 +1,86 @@
+-- `cache::Cache::rest_blank` meets its contract: the rest from here on answers the whole.
+-- Assumes nothing.
+use native.Mathlib.Omega.{arith}
+use mathlib.Core.Bool.{true, false}
+use borrow.Author.Tests.{not-true, not-false}
+use lib.ListN.{drop-of-length-le}
+use lib.Seq.{drop-cons}
+use Rattle.paging.specs.Walk.{zeroEntry}
+use Rattle.cache.proofs.Length.{long}
+use mathlib.Core.Path.{_≡_}
+use Prim.Native.Nat.{_≤_, _-_}
+use borrow.Author.Needs.{needs}
+use lib.ListN.{drop}
+use Rattle.paging.specs.Lists.{all}
+use Rattle.cache.specs.Record.{heldOf}
+use Rattle.cache.specs.Sound.{allMarks}
+use Rattle.cache.proofs.Cache.rest_blank.Statement.{statement}
+use Rattle.cache.proofs.Cache.rest_blank.Tie as tie
+use Rattle.cache.proofs.Cache.rest_blank.Reads as reads
+use Rattle.cache.proofs.Cache.rest_blank.Lts as lts
+use Rattle.cache.proofs.sound.all_marks.Reads as all-marks-reads
+
+abbrev Inv-loop : tie.InvT-loop
+Inv-loop self i₀ i = (i ≤ 256) × (all allMarks (drop i (self .entries)) ≡ all allMarks (drop (heldOf self) (self .entries)))
+
+abbrev μ-loop : tie.MeasureT-loop
+μ-loop self i₀ i = 256 - i
+
+cast-i : tie.Need-cast-i Inv-loop μ-loop
+cast-i c = search needs
+
+loop-holds : tie.Need-loop-holds Inv-loop μ-loop
+loop-holds c = search needs
+
+mul-e : tie.Need-mul-e Inv-loop μ-loop
+mul-e c = search needs
+
+element-copy-out-e : tie.Need-element-copy-out-e Inv-loop μ-loop
+element-copy-out-e c = search needs
+
+all-marks-requires : tie.Need-all-marks-requires Inv-loop μ-loop
+all-marks-requires c κs = search needs
+
+returns : tie.Need-returns Inv-loop μ-loop
+unfolding all
+returns c = 
+    let s = c .before .before .before .before in
+    let f : c .before .all-marks .result ≡ false = not-true _ (c .if1 .taken) in
+    rw (← s .loop .inv .1, drop-cons (s .before .args .t1 .entries) (s .loop .i) zeroEntry (omega (arith, long (s .before .args .t1) _ (s .before .good .0))), ← c .before .all-marks .ensures, f)
+
+add-i : tie.Need-add-i Inv-loop μ-loop
+add-i c = search needs
+
+loop-less : tie.Need-loop-less Inv-loop μ-loop
+loop-less c = search needs
+
+loop-again : tie.Need-loop-again Inv-loop μ-loop
+unfolding all
+loop-again c = 
+    let s = c .before .before .before .before in
+    let t : c .before .all-marks .result ≡ true = not-false _ (c .if1 .left) in
+    ( search needs
+    , ?)
+
+returns-2 : tie.Need-returns-2 Inv-loop μ-loop
+unfolding all
+returns-2 c = 
+    let s = c .before in
+    rw (← s .loop .inv .1, drop-of-length-le (s .before .args .t1 .entries) (omega (arith, long (s .before .args .t1) _ (s .before .good .0))))
+
+pub rest-blank-spec : {M : Type 1} → statement M
+rest-blank-spec =
+    tie.close
+    (tie.spec
+    Inv-loop
+    μ-loop
+    cast-i
+    loop-holds
+    mul-e
+    element-copy-out-e
+    all-marks-requires
+    returns
+    add-i
+    loop-less
+    loop-again
+    returns-2)
