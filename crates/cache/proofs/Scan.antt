@@ -5,21 +5,21 @@
 use mathlib.Core.Path.{_≡_, refl, sym, ap, _∙_}
 use mathlib.Core.Bool.{Bool, true, false}
 use mathlib.Core.List.{List, [], _∷_, _++_, map}
-use Prim.Native.Nat.{ℕ, zero, suc, _+_, _≤_, _<_}
+use Prim.Native.Nat.{ℕ, zero, suc, _+_, _-_, _≤_, _<_}
 use native.Mathlib.Omega.{arith}
 use native.Mathlib.Decide.{ℕ-discrete}
 use native.Mathlib.Numerals.{add-one}
 use lib.Dec.{eqb, ltb, leb}
 use lib.ListN.{length, getD, set, take, drop, replicate, length-set, length-replicate, drop-of-length-le}
-use lib.Seq.{getD-set-same, getD-set-other, take-all, take-suc, take-suc-set, drop-cons, slice, slice-cons}
-use borrow.Author.Tests.{leb-true, ltb-true, eqb-true, eqb-false, eq-eqb, ne-eqb}
+use lib.Seq.{getD-set-same, getD-set-other, take-all, take-suc, take-suc-set, drop-cons, slice, slice-cons, slice-empty}
+use borrow.Author.Tests.{leb-true, ltb-true, ltb-false, eqb-true, eqb-false, eq-eqb, ne-eqb}
 use Rattle.paging.specs.Lists.{pick, not, both, any, all}
 use Rattle.paging.specs.Rules.{mark, once}
-use Rattle.paging.specs.Walk.{entryAt, pages}
+use Rattle.paging.specs.Walk.{zeroEntry, entryAt, pages}
 use Rattle.paging.specs.Plans.{mem}
-use Rattle.paging.specs.Calls.{requestLimit, outside}
+use Rattle.paging.specs.Calls.{frameLimit, requestLimit, outside}
 use Rattle.paging.specs.declared.Entry.{Entry}
-use Rattle.paging.proofs.Lists.{false≢true, both-first, both-second}
+use Rattle.paging.proofs.Lists.{false≢true, both-first, both-second, all-at}
 use Rattle.paging.proofs.Frames.{pages-length, pages-at}
 use Rattle.cache.specs.declared.Cache.{Cache}
 use Rattle.cache.specs.Record.{heldOf, heldEntries, feedable}
@@ -151,7 +151,7 @@ unseen-noted : (seen : List Bool) (e d : Entry) → Below (length seen) e → un
 unfolding unseen noted momentsDiffer
 unseen-noted seen e d b =
     all-same (λ (m : ℕ). not (getD (noting seen (moments e)) m false)) (λ (m : ℕ). both (not (getD seen m false)) (not (mem m (moments e))))
-      (λ m. rw (noting-at seen (moments e) m (under-moments (length seen) e b)) (go (mem m (moments e)) (getD seen m false))) (moments d)
+    (λ m. rw (noting-at seen (moments e) m (under-moments (length seen) e b)) (go (mem m (moments e)) (getD seen m false))) (moments d)
     ∙ all-both (λ (m : ℕ). not (getD seen m false)) (λ (m : ℕ). not (mem m (moments e))) (moments d)
     ∙ ap (both (all (λ (m : ℕ). not (getD seen m false)) (moments d))) (apart-swap (moments d) (moments e))
   where
@@ -217,13 +217,24 @@ scan-is clock seen (e ∷ es) h = go (entryOk clock e) refl (scan-is clock (note
     go : (b : Bool) → entryOk clock e ≡ b
         → scan clock (noted seen e) es ≡ both (all (entryOk clock) es) (both (all (unseen (noted seen e)) es) (pairwise momentsDiffer es))
         → both b (both (unseen seen e) (scan clock (noted seen e) es))
-          ≡ both (pick b (all (entryOk clock) es) false)
-            (both (pick (unseen seen e) (all (unseen seen) es) false) (both (all (momentsDiffer e) es) (pairwise momentsDiffer es)))
+        ≡ both (pick b (all (entryOk clock) es) false)
+        (both (pick (unseen seen e) (all (unseen seen) es) false) (both (all (momentsDiffer e) es) (pairwise momentsDiffer es)))
     go true q ih =
         let later : all (unseen (noted seen e)) es ≡ both (all (unseen seen) es) (all (momentsDiffer e) es) =
-          all-same _ _ (λ d. unseen-noted seen e d (fits-below clock (length seen) e h q)) es ∙ all-both (unseen seen) (momentsDiffer e) es in
+        all-same _ _ (λ d. unseen-noted seen e d (fits-below clock (length seen) e h q)) es ∙ all-both (unseen seen) (momentsDiffer e) es in
         rw (ih, later) (order (unseen seen e) (all (entryOk clock) es) (all (unseen seen) es) (all (momentsDiffer e) es) (pairwise momentsDiffer es))
     go false q ih = refl
+
+-- one entry, then the rest
+pub scan-on : (clock : ℕ) (seen : List Bool) (es : List Entry) (held i : ℕ) → i < held → held ≤ length es
+    → scan clock seen (slice i held es)
+    ≡ both (entryOk clock (entryAt es i)) (both (unseen seen (entryAt es i)) (scan clock (noted seen (entryAt es i)) (slice (i + 1) held es)))
+unfolding scan
+scan-on clock seen es held i h k = rw (slice-cons i held es zeroEntry h k, add-one i)
+
+pub scan-end : (clock : ℕ) (seen : List Bool) (es : List Entry) (held i : ℕ) → i ≡ held → scan clock seen (slice i held es) ≡ true
+unfolding scan
+scan-end clock seen es held i h = rw (h, slice-empty held es)
 
 -- the whole walk, which starts with no moment seen
 pub scan-entries : (c : Cache) → c .clock ≤ requestLimit → scan (c .clock) (replicate requestLimit false) (heldEntries c) ≡ entriesOk c
@@ -231,7 +242,7 @@ unfolding entriesOk conditions
 scan-entries c h =
     scan-is (c .clock) (replicate requestLimit false) es (rw (length-replicate requestLimit false) h)
     ∙ rw (unseen-at-first requestLimit es, all-both unmarked (λ (e : Entry). both (inOrder (c .clock) e) (earlierFits e)) es, all-both (inOrder (c .clock)) earlierFits es)
-      (four (all unmarked es) (all (inOrder (c .clock)) es) (all earlierFits es) (pairwise momentsDiffer es))
+    (four (all unmarked es) (all (inOrder (c .clock)) es) (all earlierFits es) (pairwise momentsDiffer es))
   where
     es : List Entry
     es = heldEntries c
@@ -288,19 +299,30 @@ pub differ-pages : (c : Cache) → pairwise differ (take (heldOf c) (pages (c .e
 differ-pages c =
     rw (take-map (λ (e : Entry). e .page .0) (heldOf c) (c .entries)) (pairwise-map (λ (e : Entry). e .page .0) differ (heldEntries c))
 
+-- the words from place i up to place held
+abbrev pub from : ℕ → ℕ → List ℕ → List ℕ
+from i held words = take (held - i) (drop i words)
+
 -- the first page against those after it, then the rest
 pub differ-on : (words : List ℕ) (held i : ℕ) → i < held → held ≤ length words
-    → pairwise differ (slice i held words)
-      ≡ both (not (mem (getD words i 0) (slice (i + 1) held words))) (pairwise differ (slice (i + 1) held words))
+    → pairwise differ (from i held words)
+    ≡ both (not (mem (getD words i 0) (from (i + 1) held words))) (pairwise differ (from (i + 1) held words))
 unfolding pairwise
-differ-on words held i h k = rw (slice-cons i held words 0 h k, add-one i, none-is (getD words i 0) (slice (suc i) held words))
+differ-on words held i h k =
+    let l : i < length words = omega arith in
+    let e : held - i ≡ suc (held - (i + 1)) = omega arith in
+    rw (e, drop-cons words i 0 l, add-one i, none-is (getD words i 0) (take (held - suc i) (drop (suc i) words)))
+
+pub differ-end : (words : List ℕ) (held i : ℕ) → i ≡ held → pairwise differ (from i held words) ≡ true
+unfolding pairwise
+differ-end words held i h = let e : held - i ≡ 0 = omega arith in rw e
 
 -- ---- the whole
 
 -- the test of a record by its parts
 pub sound-parts : (c : Cache)
     → sound c
-      ≡ both (sizesOk c) (both (pairwise pagesDiffer (heldEntries c)) (both (entriesOk c) (all allMarks (drop (heldOf c) (c .entries)))))
+    ≡ both (sizesOk c) (both (pairwise pagesDiffer (heldEntries c)) (both (entriesOk c) (all allMarks (drop (heldOf c) (c .entries)))))
 unfolding sound sizesOk entriesOk
 sound-parts c =
     all-append id (take 5 (conditions c)) (drop 5 (conditions c))
@@ -308,3 +330,22 @@ sound-parts c =
   where
     id : Bool → Bool
     id b = b
+
+-- what the conditions on rule, frames, clock and held give the others
+pub sizes : (c : Cache) → sizesOk c ≡ true → (heldOf c ≤ frameLimit) × (c .clock ≤ requestLimit)
+unfolding sizesOk
+sizes c e =
+    let f : c .frames ≤ frameLimit = inside (ltb (c .frames) 1) (at 1 (omega arith)) in
+    let h : heldOf c ≤ c .frames = leb-true _ _ (at 3 (omega arith)) in
+    (omega arith, leb-true _ _ (at 2 (omega arith)))
+  where
+    at : (k : ℕ) → k < 5 → getD (take 5 (conditions c)) k false ≡ true
+    at = all-at (λ (b : Bool). b) false (take 5 (conditions c)) e
+
+    inside : (b : Bool) → not (pick b true (ltb frameLimit (c .frames))) ≡ true → c .frames ≤ frameLimit
+    inside true q = absurd (false≢true q)
+    inside false q = within (ltb frameLimit (c .frames)) refl q
+      where
+        within : (b : Bool) → ltb frameLimit (c .frames) ≡ b → not b ≡ true → c .frames ≤ frameLimit
+        within true r q = absurd (false≢true q)
+        within false r q = ltb-false frameLimit (c .frames) r

@@ -10,6 +10,7 @@ use paging::Moment;
 use paging::Outcome;
 use paging::Page;
 use paging::Refusal;
+
 mod sound;
 
 pub struct Cache {

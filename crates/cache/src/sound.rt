@@ -9,8 +9,8 @@ ghost use lib.ListN.{drop};
 ghost use Rattle.cache.specs.Record.{heldOf, heldEntries};
 ghost use Rattle.cache.specs.Sound.{pairwise, pagesDiffer, allMarks, moments, sound};
 ghost use Rattle.cache.specs.Scan.{sizesOk, entryOk, entriesOk, Below, unseen, noted};
-use paging::Entry;
 use crate::Cache;
+use paging::Entry;
 
 // Whether p is among the words. No early return: a loop of one fixed length can test several words at once.
 fn among(words: &[u32], p: u32) -> bool

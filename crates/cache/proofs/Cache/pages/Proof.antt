@@ -1,17 +1,15 @@
 -- `cache::Cache::pages` meets its contract: the words so far are the pages so far.
 -- Assumes nothing.
-use native.Mathlib.Omega.{arith}
-use Rattle.cache.proofs.Length.{long}
-use Rattle.cache.proofs.Scan.{copied, copied-all}
 use mathlib.Core.Path.{_≡_}
 use Prim.Native.Nat.{_≤_, _-_}
-use borrow.Author.Needs.{needs}
+use native.Mathlib.Omega.{arith}
 use lib.ListN.{length, take}
+use borrow.Author.Needs.{needs}
 use Rattle.paging.specs.Walk.{pages}
+use Rattle.cache.proofs.Length.{long}
+use Rattle.cache.proofs.Scan.{copied, copied-all}
 use Rattle.cache.proofs.Cache.pages.Statement.{statement}
 use Rattle.cache.proofs.Cache.pages.Tie as tie
-use Rattle.cache.proofs.Cache.pages.Reads as reads
-use Rattle.cache.proofs.Cache.pages.Lts as lts
 
 abbrev Inv-loop : tie.InvT-loop
 Inv-loop self words₀ i₀ words i = (i ≤ 256) × (length words ≡ 256) × (take i words ≡ take i (pages (self .entries)))
@@ -41,15 +39,16 @@ loop-less : tie.Need-loop-less Inv-loop μ-loop
 loop-less c = search needs
 
 loop-again : tie.Need-loop-again Inv-loop μ-loop
-loop-again c = 
-    let s = c .before in
-    ( search needs
-    , search needs
-    , copied (s .before .args .t1 .entries) (s .loop .words) (s .loop .i) (s .loop .inv .2) (search needs)
-      (omega (arith, long (s .before .args .t1) _ (s .before .good .0))) )
+loop-again c =
+    let s = c .before in (
+      search needs,
+      search needs,
+      copied (s .before .args .t1 .entries) (s .loop .words) (s .loop .i) (s .loop .inv .2) (search needs)
+          (omega (arith, long (s .before .args .t1) _ (s .before .good .0))),
+    )
 
 returns : tie.Need-returns Inv-loop μ-loop
-returns c = 
+returns c =
     let s = c .before in
     copied-all (s .before .args .t1 .entries) (s .loop .words) (s .loop .i) (s .loop .inv .2) (omega arith)
     (omega (arith, long (s .before .args .t1) _ (s .before .good .0)))

@@ -1,24 +1,21 @@
 -- `cache::Cache::rest_blank` meets its contract: the rest from here on answers the whole.
 -- Assumes nothing.
-use native.Mathlib.Omega.{arith}
+use mathlib.Core.Path.{sym, _∙_, _≡_}
 use mathlib.Core.Bool.{true, false}
-use borrow.Author.Tests.{not-true, not-false}
-use lib.ListN.{drop-of-length-le}
+use Prim.Native.Nat.{_+_, _≤_, _<_, _-_}
+use native.Mathlib.Numerals.{add-one}
+use native.Mathlib.Omega.{arith}
+use lib.ListN.{drop-of-length-le, length, drop}
 use lib.Seq.{drop-cons}
-use Rattle.paging.specs.Walk.{zeroEntry}
-use Rattle.cache.proofs.Length.{long}
-use mathlib.Core.Path.{_≡_}
-use Prim.Native.Nat.{_≤_, _-_}
 use borrow.Author.Needs.{needs}
-use lib.ListN.{drop}
-use Rattle.paging.specs.Lists.{all}
+use borrow.Author.Tests.{not-true, not-false}
+use Rattle.paging.specs.Lists.{both, all}
+use Rattle.paging.specs.Walk.{zeroEntry, entryAt}
 use Rattle.cache.specs.Record.{heldOf}
 use Rattle.cache.specs.Sound.{allMarks}
+use Rattle.cache.proofs.Length.{long}
 use Rattle.cache.proofs.Cache.rest_blank.Statement.{statement}
 use Rattle.cache.proofs.Cache.rest_blank.Tie as tie
-use Rattle.cache.proofs.Cache.rest_blank.Reads as reads
-use Rattle.cache.proofs.Cache.rest_blank.Lts as lts
-use Rattle.cache.proofs.sound.all_marks.Reads as all-marks-reads
 
 abbrev Inv-loop : tie.InvT-loop
 Inv-loop self i₀ i = (i ≤ 256) × (all allMarks (drop i (self .entries)) ≡ all allMarks (drop (heldOf self) (self .entries)))
@@ -41,12 +38,21 @@ element-copy-out-e c = search needs
 all-marks-requires : tie.Need-all-marks-requires Inv-loop μ-loop
 all-marks-requires c κs = search needs
 
-returns : tie.Need-returns Inv-loop μ-loop
+-- one entry, then the rest
+turn : (c : tie.In-loop Inv-loop μ-loop)
+    → all allMarks (drop (heldOf (c .before .before .args .t1)) (c .before .before .args .t1 .entries))
+    ≡ both (allMarks (entryAt (c .before .before .args .t1 .entries) (c .before .loop .i)))
+    (all allMarks (drop (c .before .loop .i + 1) (c .before .before .args .t1 .entries)))
 unfolding all
-returns c = 
-    let s = c .before .before .before .before in
+turn c =
+    let s = c .before in
+    let h : s .loop .i < length (s .before .args .t1 .entries) = omega (arith, long (s .before .args .t1) _ (s .before .good .0)) in
+    sym (s .loop .inv .1) ∙ rw (drop-cons (s .before .args .t1 .entries) (s .loop .i) zeroEntry h, add-one)
+
+returns : tie.Need-returns Inv-loop μ-loop
+returns c =
     let f : c .before .all-marks .result ≡ false = not-true _ (c .if1 .taken) in
-    rw (← s .loop .inv .1, drop-cons (s .before .args .t1 .entries) (s .loop .i) zeroEntry (omega (arith, long (s .before .args .t1) _ (s .before .good .0))), ← c .before .all-marks .ensures, f)
+    rw (turn (c .before .before .before), ← c .before .all-marks .ensures, f)
 
 add-i : tie.Need-add-i Inv-loop μ-loop
 add-i c = search needs
@@ -55,18 +61,16 @@ loop-less : tie.Need-loop-less Inv-loop μ-loop
 loop-less c = search needs
 
 loop-again : tie.Need-loop-again Inv-loop μ-loop
-unfolding all
-loop-again c = 
-    let s = c .before .before .before .before in
+loop-again c =
     let t : c .before .all-marks .result ≡ true = not-false _ (c .if1 .left) in
-    ( search needs
-    , ?)
+    (search needs, rw (turn (c .before .before .before), ← c .before .all-marks .ensures, t))
 
 returns-2 : tie.Need-returns-2 Inv-loop μ-loop
 unfolding all
-returns-2 c = 
+returns-2 c =
     let s = c .before in
-    rw (← s .loop .inv .1, drop-of-length-le (s .before .args .t1 .entries) (omega (arith, long (s .before .args .t1) _ (s .before .good .0))))
+    let l : length (s .before .args .t1 .entries) ≤ s .loop .i = omega (arith, long (s .before .args .t1) _ (s .before .good .0)) in
+    rw (← s .loop .inv .1, drop-of-length-le (s .before .args .t1 .entries) l)
 
 pub rest-blank-spec : {M : Type 1} → statement M
 rest-blank-spec =

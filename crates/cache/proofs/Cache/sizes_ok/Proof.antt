@@ -1,27 +1,23 @@
 -- `cache::Cache::sizes_ok` meets its contract: the first five conditions in their order.
 -- Assumes nothing.
-use Rattle.cache.proofs.Scan.{both-truth}
 use mathlib.Core.Path.{_≡_, sym}
-use lib.Dec.{leb}
-use Rattle.paging.specs.Lists.{both}
-use Rattle.paging.specs.Calls.{requestLimit}
 use mathlib.Core.Bool.{true, false}
-use borrow.Author.Tests.{not-true, not-false, lt-leb, le-leb}
-use Rattle.cache.specs.Scan.{sizesOk}
+use lib.Dec.{leb}
 use borrow.Author.Needs.{needs}
+use borrow.Author.Tests.{not-true, not-false, lt-leb, le-leb}
+use Rattle.paging.specs.Calls.{requestLimit}
+use Rattle.paging.specs.Lists.{both}
+use Rattle.cache.specs.Scan.{sizesOk}
+use Rattle.cache.proofs.Scan.{both-truth}
 use Rattle.cache.proofs.Cache.sizes_ok.Statement.{statement}
 use Rattle.cache.proofs.Cache.sizes_ok.Tie as tie
-use Rattle.cache.proofs.Cache.sizes_ok.Reads as reads
-use Rattle.cache.proofs.Cache.sizes_ok.Lts as lts
-use Rattle.cache.proofs.feedable.Reads as feedable-reads
-use Rattle.cache.proofs.outside.Reads as outside-reads
 
 feedable-requires : tie.Need-feedable-requires
 feedable-requires c κs = search needs
 
 returns : tie.Need-returns
 unfolding sizesOk
-returns c = 
+returns c =
     let f : c .before .feedable .result ≡ false = not-true _ (c .if1 .taken) in
     rw (← c .before .feedable .ensures, f)
 
@@ -30,16 +26,16 @@ outside-requires c κs = search needs
 
 returns-2 : tie.Need-returns-2
 unfolding sizesOk
-returns-2 c = 
+returns-2 c =
     let f : c .before .before .before .feedable .result ≡ true = not-false _ (c .before .before .if1 .left) in
     rw (← c .before .before .before .feedable .ensures, f, ← c .before .outside .ensures, c .if2 .taken)
 
 -- past the tests of rule and frames
 opened : (c : tie.Else2)
     → sizesOk (c .before .before .before .before .args .self)
-      ≡ both (leb (c .before .before .before .before .args .self .clock) requestLimit)
-        (both (leb (c .before .before .before .before .args .self .held) (c .before .before .before .before .args .self .frames))
-        (both (leb (c .before .before .before .before .args .self .held) (c .before .before .before .before .args .self .clock)) true))
+    ≡ both (leb (c .before .before .before .before .args .self .clock) requestLimit)
+    (both (leb (c .before .before .before .before .args .self .held) (c .before .before .before .before .args .self .frames))
+    (both (leb (c .before .before .before .before .args .self .held) (c .before .before .before .before .args .self .clock)) true))
 unfolding sizesOk
 opened c =
     let f : c .before .before .before .feedable .result ≡ true = not-false _ (c .before .before .if1 .left) in

@@ -3,8 +3,6 @@
 use Rattle.paging.proofs.Picks.{picks}
 use Rattle.cache.proofs.sound.all_marks.Statement.{statement}
 use Rattle.cache.proofs.sound.all_marks.Tie as tie
-use Rattle.cache.proofs.sound.all_marks.Reads as reads
-use Rattle.cache.proofs.sound.all_marks.Lts as lts
 
 returns : tie.Need-returns
 returns c = search picks

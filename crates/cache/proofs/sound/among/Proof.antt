@@ -1,19 +1,17 @@
 -- `cache::sound::among` meets its contract: what was found, or else the rest of the words from here on, answers the whole.
 -- Assumes nothing.
-use native.Mathlib.Omega.{arith}
-use mathlib.Core.Logic.{⊎-elim}
-use Rattle.cache.proofs.Scan.{found-here, found-later, found-or-not}
 use mathlib.Core.Path.{_≡_}
+use mathlib.Core.Logic.{⊎-elim}
 use mathlib.Core.Bool.{true}
 use Prim.Native.Nat.{_≤_, _-_}
-use borrow.Author.Needs.{needs}
+use native.Mathlib.Omega.{arith}
 use lib.ListN.{length, drop}
+use borrow.Author.Needs.{needs}
 use Rattle.paging.specs.Lists.{pick}
 use Rattle.paging.specs.Plans.{mem}
+use Rattle.cache.proofs.Scan.{found-here, found-later, found-or-not}
 use Rattle.cache.proofs.sound.among.Statement.{statement}
 use Rattle.cache.proofs.sound.among.Tie as tie
-use Rattle.cache.proofs.sound.among.Reads as reads
-use Rattle.cache.proofs.sound.among.Lts as lts
 
 abbrev Inv-loop : tie.InvT-loop
 Inv-loop words p found₀ i₀ found i = (i ≤ length words) × (pick found true (mem p (drop i words)) ≡ mem p words)
@@ -37,13 +35,15 @@ loop-less : tie.Need-loop-less Inv-loop μ-loop
 loop-less c = search needs
 
 loop-again : tie.Need-loop-again Inv-loop μ-loop
-loop-again c = 
-    let s = c .before .before .before in
-    ( search needs
-    , ⊎-elim (λ w. ?) (λ w. ?) (c .if1 .came) )
+loop-again c =
+    let s = c .before .before .before in (
+      search needs,
+      ⊎-elim (λ w. rw (w .1) (found-here (s .before .args .p) (s .before .args .words .now) (s .loop .i) (s .loop .found) _ (s .loop .inv .1) (omega arith) (w .0 .taken)))
+          (λ w. rw (w .1) (found-later (s .before .args .p) (s .before .args .words .now) (s .loop .i) (s .loop .found) _ (s .loop .inv .1) (omega arith) (w .0 .left))) (c .if1 .came),
+    )
 
 returns : tie.Need-returns Inv-loop μ-loop
-returns c = 
+returns c =
     let s = c .before in
     found-or-not (s .before .args .p) (s .before .args .words .now) (s .loop .i) (s .loop .found) _ (s .loop .inv .1) (omega arith)
 

@@ -3,8 +3,6 @@
 use Rattle.paging.proofs.Picks.{picks}
 use Rattle.cache.proofs.sound.entry_ok.Statement.{statement}
 use Rattle.cache.proofs.sound.entry_ok.Tie as tie
-use Rattle.cache.proofs.sound.entry_ok.Reads as reads
-use Rattle.cache.proofs.sound.entry_ok.Lts as lts
 
 returns : tie.Need-returns
 returns c = search picks

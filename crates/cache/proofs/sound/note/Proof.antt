@@ -1,12 +1,10 @@
 -- `cache::sound::note` meets its contract.
 -- Assumes nothing.
+use borrow.Author.Needs.{needs}
 use borrow.Author.Tests.{eq-eqb, ne-eqb}
 use Rattle.cache.specs.Scan.{noted}
-use borrow.Author.Needs.{needs}
 use Rattle.cache.proofs.sound.note.Statement.{statement}
 use Rattle.cache.proofs.sound.note.Tie as tie
-use Rattle.cache.proofs.sound.note.Reads as reads
-use Rattle.cache.proofs.sound.note.Lts as lts
 
 cast-seen : tie.Need-cast-seen
 cast-seen c = search needs

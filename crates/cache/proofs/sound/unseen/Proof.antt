@@ -2,14 +2,13 @@
 -- Assumes nothing.
 use mathlib.Core.Path.{_≡_, refl}
 use mathlib.Core.Bool.{Bool, true, false}
+use lib.ListN.{getD}
+use borrow.Author.Needs.{needs}
 use borrow.Author.Tests.{eq-eqb, ne-eqb}
 use Rattle.paging.specs.Lists.{not, both}
 use Rattle.cache.specs.Scan.{unseen}
-use borrow.Author.Needs.{needs}
 use Rattle.cache.proofs.sound.unseen.Statement.{statement}
 use Rattle.cache.proofs.sound.unseen.Tie as tie
-use Rattle.cache.proofs.sound.unseen.Reads as reads
-use Rattle.cache.proofs.sound.unseen.Lts as lts
 
 cast-if1 : tie.Need-cast-if1
 cast-if1 c = search needs
@@ -48,9 +47,10 @@ nots false = refl
 
 returns-4 : tie.Need-returns-4
 unfolding unseen
-returns-4 c = 
+returns-4 c =
+    let s = c .before .before .before .before .before .before .before .before .before .before in
     rw (c .before .before .before .before .before .before .before .if1 .left, c .before .before .before .before .if2 .left, ne-eqb _ _ (c .before .before .if3 .left))
-    (nots _)
+    (nots (getD (s .args .seen .now) (s .args .e .earlier .0) false))
 
 pub unseen-spec : {M : Type 1} → statement M
 unseen-spec =
