@@ -1,2 +1,5 @@
 pub mod Length
-pub mod Scan
+pub mod All
+pub mod Seen
+pub mod Words
+pub mod Parts

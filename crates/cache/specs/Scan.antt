@@ -1,5 +1,5 @@
 -- Devices of the code that tests soundness: which of the conditions of specs/Sound.antt a function tests, and the set of the moments seen.
--- The laws that tie them to `sound` are in proofs/Scan.antt.
+-- The laws that tie them to `sound` are in proofs/Seen.antt and proofs/Parts.antt.
 -- Assumes nothing.
 use mathlib.Core.Path.{_≡_}
 use mathlib.Core.List.{List, [], _∷_}

@@ -7,7 +7,7 @@ ghost use Rattle.paging.specs.Lists.{all};
 ghost use Rattle.paging.specs.Calls.{frameLimit, requestLimit};
 ghost use lib.ListN.{drop};
 ghost use Rattle.cache.specs.Record.{heldOf, heldEntries};
-ghost use Rattle.cache.specs.Sound.{pairwise, pagesDiffer, allMarks, moments, sound};
+ghost use Rattle.cache.specs.Sound.{pairwise, pagesDiffer, allMarks, sound};
 ghost use Rattle.cache.specs.Scan.{sizesOk, entryOk, entriesOk, Below, unseen, noted};
 use crate::Cache;
 use paging::Entry;

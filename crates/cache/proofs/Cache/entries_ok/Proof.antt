@@ -12,7 +12,7 @@ use Rattle.paging.specs.Lists.{both}
 use Rattle.paging.specs.Walk.{entryAt}
 use Rattle.cache.specs.Scan.{entryOk, entriesOk, Below, unseen, noted}
 use Rattle.cache.proofs.Length.{long}
-use Rattle.cache.proofs.Scan.{scan, scan-on, scan-end, scan-entries, fits-below}
+use Rattle.cache.proofs.Seen.{scan, scan-on, scan-end, scan-entries, fits-below}
 use Rattle.cache.proofs.Cache.entries_ok.Statement.{statement}
 use Rattle.cache.proofs.Cache.entries_ok.Tie as tie
 

@@ -7,7 +7,7 @@ use lib.ListN.{length, take}
 use borrow.Author.Needs.{needs}
 use Rattle.paging.specs.Walk.{pages}
 use Rattle.cache.proofs.Length.{long}
-use Rattle.cache.proofs.Scan.{copied, copied-all}
+use Rattle.cache.proofs.Words.{copied, copied-all}
 use Rattle.cache.proofs.Cache.pages.Statement.{statement}
 use Rattle.cache.proofs.Cache.pages.Tie as tie
 

@@ -11,7 +11,7 @@ use Rattle.paging.proofs.Frames.{pages-length}
 use Rattle.cache.specs.Record.{heldEntries}
 use Rattle.cache.specs.Sound.{pagesDiffer, pairwise}
 use Rattle.cache.proofs.Length.{long}
-use Rattle.cache.proofs.Scan.{differ, from, differ-on, differ-end, differ-pages}
+use Rattle.cache.proofs.Words.{differ, from, differ-on, differ-end, differ-pages}
 use Rattle.cache.proofs.Cache.pages_apart.Statement.{statement}
 use Rattle.cache.proofs.Cache.pages_apart.Tie as tie
 

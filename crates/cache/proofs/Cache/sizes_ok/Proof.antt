@@ -8,7 +8,7 @@ use borrow.Author.Tests.{not-true, not-false, lt-leb, le-leb}
 use Rattle.paging.specs.Calls.{requestLimit}
 use Rattle.paging.specs.Lists.{both}
 use Rattle.cache.specs.Scan.{sizesOk}
-use Rattle.cache.proofs.Scan.{both-truth}
+use Rattle.cache.proofs.All.{both-truth}
 use Rattle.cache.proofs.Cache.sizes_ok.Statement.{statement}
 use Rattle.cache.proofs.Cache.sizes_ok.Tie as tie
 

@@ -9,7 +9,7 @@ use Rattle.paging.specs.Lists.{both, all}
 use Rattle.cache.specs.Record.{heldOf, heldEntries}
 use Rattle.cache.specs.Scan.{sizesOk, entriesOk}
 use Rattle.cache.specs.Sound.{pairwise, pagesDiffer, allMarks, sound}
-use Rattle.cache.proofs.Scan.{sizes, sound-parts}
+use Rattle.cache.proofs.Parts.{sizes, sound-parts}
 use Rattle.cache.proofs.Cache.sound.Statement.{statement}
 use Rattle.cache.proofs.Cache.sound.Tie as tie
 

@@ -9,7 +9,7 @@ use lib.ListN.{length, drop}
 use borrow.Author.Needs.{needs}
 use Rattle.paging.specs.Lists.{pick}
 use Rattle.paging.specs.Plans.{mem}
-use Rattle.cache.proofs.Scan.{found-here, found-later, found-or-not}
+use Rattle.cache.proofs.Words.{found-here, found-later, found-or-not}
 use Rattle.cache.proofs.sound.among.Statement.{statement}
 use Rattle.cache.proofs.sound.among.Tie as tie
 
