@@ -156,7 +156,7 @@ pub scan-entries : (c : Cache) → c .clock ≤ requestLimit → scan (c .clock)
 unfolding entriesOk conditions
 scan-entries c h =
     scan-is (c .clock) (replicate requestLimit false) es (rw (length-replicate requestLimit false) h)
-    ∙ rw (unseen-at-first requestLimit es, all-both unmarked (λ (e : Entry). both (inOrder (c .clock) e) (earlierFits e)) es, all-both (inOrder (c .clock)) earlierFits es)
+    ∙ rw (unseen-at-first requestLimit es, all-both unmarked inTime es, all-both (inOrder (c .clock)) earlierFits es)
     (four (all unmarked es) (all (inOrder (c .clock)) es) (all earlierFits es) (pairwise momentsDiffer es))
   where
     es : List Entry
@@ -164,6 +164,9 @@ scan-entries c h =
 
     unmarked : Entry → Bool
     unmarked e = not (eqb (e .page .0) mark)
+
+    inTime : Entry → Bool
+    inTime e = both (inOrder (c .clock) e) (earlierFits e)
 
     four : (a b d p : Bool) → both (both a (both b d)) p ≡ all (λ (b : Bool). b) (a ∷ b ∷ d ∷ p ∷ [])
     four true true true true = refl

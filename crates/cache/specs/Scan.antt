@@ -7,7 +7,7 @@ use mathlib.Core.Bool.{Bool, true, false}
 use Prim.Native.Nat.{ℕ, _<_}
 use lib.Dec.{eqb}
 use lib.ListN.{take, drop, getD, set}
-use Rattle.paging.specs.Lists.{pick, not, both, all}
+use Rattle.paging.specs.Lists.{not, both, all}
 use Rattle.paging.specs.Rules.{mark}
 use Rattle.paging.specs.declared.Entry.{Entry}
 use Rattle.cache.specs.declared.Cache.{Cache}
@@ -42,11 +42,12 @@ unfoldable pub unseen : List Bool → Entry → Bool
 unfolding all
 unseen seen e = all (λ (m : ℕ). not (getD seen m false)) (moments e)
 
+-- these moments are seen too
 unfoldable pub noting : List Bool → List ℕ → List Bool
 noting seen [] = seen
 noting seen (m ∷ ms) = noting (set seen m true) ms
 
--- the entry's moments are seen too
+-- and those of an entry
 unfoldable pub noted : List Bool → Entry → List Bool
 unfolding noting
 noted seen e = noting seen (moments e)

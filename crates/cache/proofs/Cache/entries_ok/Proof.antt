@@ -87,12 +87,14 @@ loop-again c =
     let a = b .before .before .before in
     let t : a .before .entry-ok .result ≡ true = not-false _ (a .if1 .left) in
     let u : b .before .unseen .result ≡ true = not-false _ (b .if2 .left) in
-    (search needs, search needs, rw (c .note .ensures, turn (a .before .before .before), ← a .before .entry-ok .ensures, t, ← b .before .unseen .ensures, u))
+    let go = turn (a .before .before .before) in
+    (search needs, search needs, rw (c .note .ensures, go, ← a .before .entry-ok .ensures, t, ← b .before .unseen .ensures, u))
 
 returns-3 : tie.Need-returns-3 Inv-loop μ-loop
 returns-3 c =
     let s = c .before in
-    rw (← s .loop .inv .2, scan-end (s .before .args .t1 .clock) (s .loop .seen) (s .before .args .t1 .entries) (s .before .args .t1 .held) (s .loop .i) (omega arith))
+    let d = s .before .args .t1 in
+    rw (← s .loop .inv .2, scan-end (d .clock) (s .loop .seen) (d .entries) (d .held) (s .loop .i) (omega arith))
 
 pub entries-ok-spec : {M : Type 1} → statement M
 entries-ok-spec =

@@ -48,7 +48,9 @@ returns-4 : tie.Need-returns-4
 returns-4 c = rw (opened (c .before .before .before .before), le-leb _ _ (c .before .before .if3 .left), lt-leb _ _ (c .if4 .taken))
 
 returns-5 : tie.Need-returns-5
-returns-5 c = rw (opened (c .before .before .before .before .before), le-leb _ _ (c .before .before .before .if3 .left), le-leb _ _ (c .before .if4 .left)) (sym (both-truth _))
+returns-5 c =
+    let b = c .before .before .before in
+    rw (opened (b .before .before), le-leb _ _ (b .if3 .left), le-leb _ _ (c .before .if4 .left)) (sym (both-truth _))
 
 pub sizes-ok-spec : {M : Type 1} → statement M
 sizes-ok-spec =

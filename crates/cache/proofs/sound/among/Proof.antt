@@ -3,7 +3,7 @@
 use mathlib.Core.Path.{_≡_}
 use mathlib.Core.Logic.{⊎-elim}
 use mathlib.Core.Bool.{true}
-use Prim.Native.Nat.{_≤_, _-_}
+use Prim.Native.Nat.{_≤_, _<_, _-_}
 use native.Mathlib.Omega.{arith}
 use lib.ListN.{length, drop}
 use borrow.Author.Needs.{needs}
@@ -36,10 +36,13 @@ loop-less c = search needs
 
 loop-again : tie.Need-loop-again Inv-loop μ-loop
 loop-again c =
-    let s = c .before .before .before in (
+    let s = c .before .before .before in
+    let a = s .before .args in
+    let h : s .loop .i < length (a .words .now) = omega arith in
+    let e = s .loop .inv .1 in (
       search needs,
-      ⊎-elim (λ w. rw (w .1) (found-here (s .before .args .p) (s .before .args .words .now) (s .loop .i) (s .loop .found) _ (s .loop .inv .1) (omega arith) (w .0 .taken)))
-          (λ w. rw (w .1) (found-later (s .before .args .p) (s .before .args .words .now) (s .loop .i) (s .loop .found) _ (s .loop .inv .1) (omega arith) (w .0 .left))) (c .if1 .came),
+      ⊎-elim (λ w. rw (w .1) (found-here (a .p) (a .words .now) (s .loop .i) (s .loop .found) _ e h (w .0 .taken)))
+          (λ w. rw (w .1) (found-later (a .p) (a .words .now) (s .loop .i) (s .loop .found) _ e h (w .0 .left))) (c .if1 .came),
     )
 
 returns : tie.Need-returns Inv-loop μ-loop

@@ -49,7 +49,8 @@ returns-4 : tie.Need-returns-4
 unfolding unseen
 returns-4 c =
     let s = c .before .before .before .before .before .before .before .before .before .before in
-    rw (c .before .before .before .before .before .before .before .if1 .left, c .before .before .before .before .if2 .left, ne-eqb _ _ (c .before .before .if3 .left))
+    let b = c .before .before .before .before in
+    rw (b .before .before .before .if1 .left, b .if2 .left, ne-eqb _ _ (c .before .before .if3 .left))
     (nots (getD (s .args .seen .now) (s .args .e .earlier .0) false))
 
 pub unseen-spec : {M : Type 1} → statement M
