@@ -1,7 +1,11 @@
+pub mod Long
+pub mod All
+pub mod Seen
+pub mod Words
+pub mod Parts
 pub mod Pairs
 pub mod Orderly
 pub mod Soundness
 pub mod Step
-pub mod Long
 pub mod Feeding
 pub mod Running

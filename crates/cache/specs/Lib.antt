@@ -1,4 +1,5 @@
 pub mod Record
 pub mod Sound
+pub mod Scan
 pub mod Feed
 pub mod Step

@@ -1,6 +1,8 @@
 // The cache record of document 01: its limits, the blank record, the empty cache of a given size, and the inner step that serves one request.
 // Soundness is in sound.rt, Feed in feed.rt. Everything here that asks something of its caller is private.
+mod feed;
 mod runs;
+mod sound;
 
 ghost use mathlib.Core.Path.{_≡_};
 ghost use mathlib.Core.List.{[]};

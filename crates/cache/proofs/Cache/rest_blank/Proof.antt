@@ -1,0 +1,90 @@
+-- `cache::Cache::rest_blank` meets its contract: the rest from here on answers the whole.
+-- Assumes nothing.
+use mathlib.Core.Path.{sym, _∙_, _≡_}
+use mathlib.Core.Bool.{true, false}
+use Prim.Native.Nat.{_+_, _≤_, _<_, _-_}
+use native.Mathlib.Numerals.{add-one}
+use native.Mathlib.Omega.{arith}
+use lib.ListN.{drop-of-length-le, length, drop}
+use lib.Seq.{drop-cons}
+use borrow.Author.Needs.{needs}
+use borrow.Author.Tests.{not-true, not-false}
+use Rattle.paging.specs.Lists.{both, all}
+use Rattle.paging.specs.Walk.{zeroEntry, entryAt}
+use Rattle.cache.specs.Record.{heldOf}
+use Rattle.cache.specs.Sound.{allMarks}
+use Rattle.cache.proofs.Long.{long}
+use Rattle.cache.proofs.Cache.rest_blank.Statement.{statement}
+use Rattle.cache.proofs.Cache.rest_blank.Tie as tie
+
+abbrev Inv-loop : tie.InvT-loop
+Inv-loop self i₀ i = (i ≤ 256) × (all allMarks (drop i (self .entries)) ≡ all allMarks (drop (heldOf self) (self .entries)))
+
+abbrev μ-loop : tie.MeasureT-loop
+μ-loop self i₀ i = 256 - i
+
+cast-i : tie.Need-cast-i Inv-loop μ-loop
+cast-i c = search needs
+
+loop-holds : tie.Need-loop-holds Inv-loop μ-loop
+loop-holds c = search needs
+
+mul-e : tie.Need-mul-e Inv-loop μ-loop
+mul-e c = search needs
+
+element-copy-out-e : tie.Need-element-copy-out-e Inv-loop μ-loop
+element-copy-out-e c = search needs
+
+all-marks-requires : tie.Need-all-marks-requires Inv-loop μ-loop
+all-marks-requires c κs = search needs
+
+-- one entry, then the rest
+turn : (c : tie.In-loop Inv-loop μ-loop)
+    → all allMarks (drop (heldOf (c .before .before .args .t1)) (c .before .before .args .t1 .entries))
+    ≡ both (allMarks (entryAt (c .before .before .args .t1 .entries) (c .before .loop .i)))
+    (all allMarks (drop (c .before .loop .i + 1) (c .before .before .args .t1 .entries)))
+unfolding all
+turn c =
+    let s = c .before in
+    let h : s .loop .i < length (s .before .args .t1 .entries) = omega (arith, long (s .before .args .t1) _ (s .before .good .0)) in
+    sym (s .loop .inv .1) ∙ rw (drop-cons (s .before .args .t1 .entries) (s .loop .i) zeroEntry h, add-one)
+
+returns : tie.Need-returns Inv-loop μ-loop
+returns c =
+    let f : c .before .all-marks .result ≡ false = not-true _ (c .if1 .taken) in
+    rw (turn (c .before .before .before), ← c .before .all-marks .ensures, f)
+
+add-i : tie.Need-add-i Inv-loop μ-loop
+add-i c = search needs
+
+loop-less : tie.Need-loop-less Inv-loop μ-loop
+loop-less c = search needs
+
+loop-again : tie.Need-loop-again Inv-loop μ-loop
+loop-again c =
+    let t : c .before .all-marks .result ≡ true = not-false _ (c .if1 .left) in
+    (search needs, rw (turn (c .before .before .before), ← c .before .all-marks .ensures, t))
+
+returns-2 : tie.Need-returns-2 Inv-loop μ-loop
+unfolding all
+returns-2 c =
+    let s = c .before in
+    let l : length (s .before .args .t1 .entries) ≤ s .loop .i = omega (arith, long (s .before .args .t1) _ (s .before .good .0)) in
+    rw (← s .loop .inv .1, drop-of-length-le (s .before .args .t1 .entries) l)
+
+pub rest-blank-spec : {M : Type 1} → statement M
+rest-blank-spec =
+    tie.close
+    (tie.spec
+    Inv-loop
+    μ-loop
+    cast-i
+    loop-holds
+    mul-e
+    element-copy-out-e
+    all-marks-requires
+    returns
+    add-i
+    loop-less
+    loop-again
+    returns-2)

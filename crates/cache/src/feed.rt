@@ -1,0 +1,52 @@
+// The service Feed: one request takes a record and hands back the next one.
+ghost use mathlib.Core.Path.{_≡_};
+ghost use Rattle.cache.specs.Feed.{replyOf, fed};
+use crate::Cache;
+use crate::Fed;
+use crate::Reply;
+use paging::Outcome;
+use paging::Page;
+use paging::Refusal;
+
+fn reply(o: Outcome) -> Reply
+    ensures { λ r. ⌜ r ≡ replyOf o ⌝ }
+{
+    match o {
+        Outcome::Hit => Reply::Hit,
+        Outcome::Loaded => Reply::Loaded,
+        Outcome::Dropped(page) => Reply::Dropped(page),
+    }
+}
+
+impl Cache {
+    // Hit, loaded, or loaded with the page dropped, and the next record; or refusal 5, 4 or 8, in that order, and the record as it came.
+    pub fn feed(self, page: Page) -> Fed
+        ensures { λ r. ⌜ r ≡ fed self (page .0) ⌝ }
+    {
+        if !self.sound() {
+            return Fed {
+                outcome: Reply::Refused(Refusal::UnsoundRecord),
+                next: self,
+            };
+        }
+        if page.0 == paging::MARK {
+            return Fed {
+                outcome: Reply::Refused(Refusal::MarkRequested(0)),
+                next: self,
+            };
+        }
+        if self.clock == Cache::REQUESTS {
+            return Fed {
+                outcome: Reply::Refused(Refusal::ClockFull),
+                next: self,
+            };
+        }
+        let a = self.serve(page);
+        let o = a.outcome;
+        let next = a.next;
+        Fed {
+            outcome: reply(o),
+            next: next,
+        }
+    }
+}
