@@ -1,20 +1,31 @@
 -- A loop that feeds a trace to a record: the record after i requests, and what is read so far.
 -- Assumes nothing.
 use mathlib.Core.Path.{_≡_, sym, ap, _∙_, subst}
+use mathlib.Core.Bool.{true, false}
 use mathlib.Core.List.{List, [], _∷_}
 use Prim.Native.Nat.{ℕ, _+_, _≤_, _<_}
 use native.Mathlib.Numerals.{add-one}
 use native.Mathlib.Omega.{arith}
 use lib.ListN.{length, getD, set, drop, drop-of-length-le}
 use lib.Seq.{drop-cons, set-out}
-use Rattle.paging.specs.Walk.{outcomes, faultOf, wordOf, faultsIn, planIn}
-use Rattle.paging.specs.Services.{laid}
+use Rattle.paging.specs.Walk.{outcomes, faultOf, wordOf, faultsIn, planIn, faults, plan}
+use Rattle.paging.specs.Rules.{ruleNumbered, named}
+use Rattle.paging.specs.Calls.{gate, marked, traceTests}
+use Rattle.paging.specs.Services.{answered, laid, written}
 use Rattle.paging.specs.declared.Outcome.{Outcome}
+use Rattle.paging.specs.declared.Gate.the-variants.{Open, No}
+use Rattle.paging.specs.declared.Answer.the-variants.{Faults}
+use Rattle.paging.specs.declared.Refusal.the-variants.{UnknownRule}
+use Rattle.paging.proofs.Calls.{none-marked}
+use Rattle.paging.proofs.Services.{answered-open, written-open}
+use Rattle.calls.proofs.Chain.{InOrder, trace-open}
 use Rattle.paging.proofs.Writing.{outcomes-length, Reading, reading-starts, reading-steps, reading-ends}
 use Rattle.cache.specs.declared.Cache.{Cache}
-use Rattle.cache.specs.Record.{heldEntries, ruleOf}
+use Rattle.cache.specs.Record.{emptyCache, heldEntries, ruleOf, feedable, fedTests}
+use Rattle.cache.specs.Sound.{sound}
 use Rattle.cache.specs.Feed.{served}
 use Rattle.cache.specs.Step.{outcomesFrom}
+use Rattle.cache.proofs.Soundness.{is-sound, empty-sound}
 use Rattle.cache.proofs.Step.{not-min}
 use Rattle.cache.proofs.Feeding.{Fits, fits-next, outcomes-step}
 
@@ -67,3 +78,27 @@ module _ (start : Cache) (trace words₀ : List ℕ) where
       reading-ends (outcomesFrom start trace) words₀ words faults i
       (subst (λ (ps : List ℕ). Reading (outcomesFrom start trace) (outcomesFrom cur ps) words₀ words faults i) (drop-of-length-le trace h) (r .reading))
       (let e : i ≡ length (outcomesFrom start trace) = omega (arith, r .passed, outcomes-length (ruleOf start) (start .frames) (start .clock) trace (heldEntries start)) in e)
+
+-- ---- from an empty cache: the chain of tests, and what the loop asks for
+
+pub unfed-gate : (rule n : ℕ) (trace : List ℕ) → feedable rule ≡ false → gate (fedTests rule n trace) ≡ No UnknownRule
+unfolding gate fedTests
+unfed-gate rule n trace e = rw e
+
+pub fed-gate : (rule n : ℕ) (trace : List ℕ) → feedable rule ≡ true → gate (fedTests rule n trace) ≡ gate (traceTests n trace)
+unfolding gate fedTests
+fed-gate rule n trace e = rw e
+
+module _ (rule n : ℕ) (trace : List ℕ) (feeds : feedable rule ≡ true) (o : gate (traceTests n trace) ≡ Open) where
+  pub empty-fits : (sound (emptyCache rule n) ≡ true) × (emptyCache rule n .clock + length trace ≤ 8000) × (marked trace ≡ false)
+  empty-fits =
+      let i : InOrder n trace = trace-open n trace .0 o in
+      (is-sound (emptyCache rule n) (empty-sound rule n feeds (i .one-frame) (i .frames)), omega (arith, i .requests), none-marked trace (i .pages))
+
+  pub empty-gives : (f : ℕ) (words left : List ℕ)
+      → (f ≡ faultsIn (outcomesFrom (emptyCache rule n) trace)) × (left ≡ laid (planIn (outcomesFrom (emptyCache rule n) trace)) words)
+      → (Faults f ≡ answered (fedTests rule n trace) (named (ruleNumbered rule)) n trace) × (left ≡ written (fedTests rule n trace) (named (ruleNumbered rule)) n trace words)
+  unfolding faults plan
+  empty-gives f words left (e, w) =
+      let g : gate (fedTests rule n trace) ≡ Open = fed-gate rule n trace feeds ∙ o in
+      (ap Faults e ∙ sym (answered-open _ _ n trace g), w ∙ sym (written-open _ _ n trace words g))

@@ -9,7 +9,7 @@ use lib.Dec.{eqb}
 use lib.ListN.{length, take, drop, replicate}
 use Rattle.paging.specs.Lists.{pick, not}
 use Rattle.paging.specs.Rules.{mark, ruleNumbered, named}
-use Rattle.paging.specs.Calls.{frameLimit, Test, test, gate, outside}
+use Rattle.paging.specs.Calls.{frameLimit, Test, test, gate, outside, traceTests}
 use Rattle.paging.specs.declared.Entry.{Entry}
 use Rattle.paging.specs.declared.Rule.{Rule}
 use Rattle.paging.specs.declared.Gate.{Gate}
@@ -78,3 +78,9 @@ freshBy (No refusal) rule frames = record { gate = No refusal; cache = blankCach
 unfoldable pub freshOf : ℕ → ℕ → Fresh
 unfolding freshTests gate
 freshOf rule frames = freshBy (gate (freshTests rule frames)) rule frames
+
+-- ---- a whole trace under a rule that can be fed: 1, then 2, 3, 4
+
+unfoldable pub fedTests : ℕ → ℕ → List ℕ → List Test
+unfolding traceTests
+fedTests rule n trace = test (not (feedable rule)) UnknownRule ∷ traceTests n trace

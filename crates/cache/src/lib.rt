@@ -1,14 +1,13 @@
 // The cache record of document 01: its limits, the blank record, the empty cache of a given size, and the inner step that serves one request.
 // Soundness is in sound.rt, Feed in feed.rt. Everything here that asks something of its caller is private.
 mod feed;
-mod runs;
+pub mod runs;
 mod sound;
 
 ghost use mathlib.Core.Path.{_≡_};
 ghost use mathlib.Core.List.{[]};
 ghost use mathlib.Core.Bool.{true, false};
 ghost use Prim.Native.Nat.{_≤_, _<_};
-ghost use Rattle.paging.specs.Calls.{outside};
 ghost use Rattle.paging.specs.Rules.{chosen};
 ghost use Rattle.paging.specs.Walk.{holds, loadedAt, renewed};
 ghost use Rattle.cache.specs.Record.{blankEntry, blankCache, emptyCache, feedable, freshOf, heldOf, heldEntries, ruleOf};
@@ -130,16 +129,6 @@ fn feedable(rule: u32) -> bool
     rule == 4
 }
 
-// Whether a number of frames is not 1 to 256.
-fn outside(frames: u32) -> bool
-    ensures { λ r. ⌜ r ≡ outside frames ⌝ }
-{
-    if frames < 1 {
-        return true;
-    }
-    Cache::FRAMES < frames
-}
-
 impl Cache {
     pub const FRAMES: u32 = 256;
 
@@ -177,7 +166,7 @@ impl Cache {
                 cache: Cache::blank(),
             };
         }
-        if outside(frames) {
+        if calls::outside(frames) {
             return Fresh {
                 gate: Gate::No(Refusal::FramesOutside(0)),
                 cache: Cache::blank(),

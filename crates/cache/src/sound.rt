@@ -117,7 +117,7 @@ impl Cache {
         if !crate::feedable(self.rule) {
             return false;
         }
-        if crate::outside(self.frames) {
+        if calls::outside(self.frames) {
             return false;
         }
         if Cache::REQUESTS < self.clock {

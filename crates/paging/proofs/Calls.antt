@@ -20,7 +20,7 @@ use Rattle.paging.specs.declared.Gate.{Gate}
 use Rattle.paging.specs.declared.Gate.the-variants.{Open, No}
 use Rattle.paging.specs.declared.Refusal.{Refusal}
 use Rattle.paging.specs.declared.Refusal.the-variants.{UnknownRule, FramesOutside, TraceTooLong, MarkRequested, UnsoundRecord, LentTooShort, PlanBroken, ClockFull, FileCut, CountNotAllowed, BytesLeftOver, PlanAboveCache}
-use Rattle.paging.proofs.Lists.{false≢true, true≢false, any-index, index-passes, index-first, none-at}
+use Rattle.paging.proofs.Lists.{false≢true, true≢false, any-index, index-passes, index-first, none-at, at-none}
 
 -- ---- the table
 
@@ -83,3 +83,7 @@ first-mark trace e =
 pub no-mark : (trace : List ℕ) → marked trace ≡ false → (t : ℕ) → t < length trace → getD trace t 0 ≡ mark → ⊥
 unfolding marked
 no-mark trace e t h x = none-at (λ (p : ℕ). eqb p mark) 0 trace e t h (eq-eqb _ _ x)
+
+pub none-marked : (trace : List ℕ) → ((t : ℕ) → t < length trace → getD trace t 0 ≡ mark → ⊥) → marked trace ≡ false
+unfolding marked
+none-marked trace none = at-none (λ (p : ℕ). eqb p mark) 0 trace (λ t h x. none t h (eqb-true _ _ x))
