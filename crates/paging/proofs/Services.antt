@@ -32,3 +32,13 @@ module _ (tests : List Test) (rule : Rule) (n : ℕ) (trace : List ℕ) where
   pub written-no : (words : List ℕ) (refusal : Refusal) → gate tests ≡ No refusal → written tests rule n trace words ≡ words
   unfolding written
   written-no words refusal e = ap (λ (g : Gate). leftBy g (plan rule n trace) words) e
+
+-- chains with the same gate answer the same
+module _ (xs ys : List Test) (same : gate xs ≡ gate ys) (rule : Rule) (n : ℕ) (trace : List ℕ) where
+  pub answered-same : answered xs rule n trace ≡ answered ys rule n trace
+  unfolding answered
+  answered-same = ap (λ (g : Gate). through g (Faults (faults rule n trace))) same
+
+  pub written-same : (words : List ℕ) → written xs rule n trace words ≡ written ys rule n trace words
+  unfolding written
+  written-same words = ap (λ (g : Gate). leftBy g (plan rule n trace) words) same

@@ -1,0 +1,36 @@
+// The services Count and Write a plan, for all four rules. Rules 1, 2 and 4 are fed to a cache record; MIN has a walk of its own.
+ghost use mathlib.Core.Path.{_≡_};
+ghost use Rattle.paging.specs.Rules.{ruleNumbered, named};
+ghost use Rattle.paging.specs.Calls.{ruleTests};
+ghost use Rattle.paging.specs.Services.{answered, written};
+ghost use Rattle.counts.specs.Counts.{countOf, planOf, wordsOf};
+use paging::Answer;
+use paging::Gate;
+
+// The faults, or refusal 1, 2, 3 or 4, and as much of the plan as there are lent words for.
+fn run(rule: u32, n: u32, trace: &[u32], words: &mut [u32]) -> Answer
+    ensures { λ r. ⌜ (r ≡ countOf rule n (now (trace .entry))) × (now (words .exit) ≡ written (ruleTests rule n (now (trace .entry))) (named (ruleNumbered rule)) n (now (trace .entry)) (now (words .entry))) ⌝ }
+{
+    if rule == 3 {
+        return minimum::run(n, trace, words);
+    }
+    cache::runs::run(rule, n, trace, words)
+}
+
+// Count: the faults of the rule with n frames, or refusal 1, 2, 3 or 4 in that order.
+pub fn count(rule: u32, n: u32, trace: &[u32]) -> Answer
+    ensures { λ r. ⌜ r ≡ countOf rule n (now (trace .entry)) ⌝ }
+{
+    let mut none = [0u32; 1];
+    run(rule, n, trace, &mut none[..0])
+}
+
+// Write a plan: the rule's plan in the first T words, every other word as it was. Refusals 1, 2, 3, 4, then 6, with all words as they were.
+pub fn write_plan(rule: u32, n: u32, trace: &[u32], words: &mut [u32]) -> Answer
+    ensures { λ r. ⌜ (r ≡ planOf rule n (now (trace .entry)) (now (words .entry))) × (now (words .exit) ≡ wordsOf rule n (now (trace .entry)) (now (words .entry))) ⌝ }
+{
+    match calls::lent_gate(calls::rule_gate(rule, n, trace), trace.len(), words.len()) {
+        Gate::No(refusal) => Answer::Refused(refusal),
+        Gate::Open => run(rule, n, trace, words),
+    }
+}
