@@ -202,3 +202,17 @@ pub held-apart : (m : ℕ) (trace words : List ℕ) (t : ℕ) → Apart (heldAt 
 unfolding heldAt
 held-apart m trace words zero = apart-nil
 held-apart m trace words (suc t) = after-apart m (heldAt m trace words t) (getD trace t 0) (getD words t 0) (held-apart m trace words t)
+
+-- ---- words past the trace are not read
+
+check-extra-from : (m : ℕ) (ps ws extra : List ℕ) (t f : ℕ) (held : List ℕ) → length ws ≡ length ps
+  → checkFrom m t f held ps (ws ++ extra) ≡ checkFrom m t f held ps ws
+unfolding checkFrom
+check-extra-from m [] ws extra t f held e = refl
+check-extra-from m (p ∷ ps) [] extra t f held e = absurd (omega arith)
+check-extra-from m (p ∷ ps) (w ∷ ws) extra t f held e =
+    ap (through (judged m t held p w)) (check-extra-from m ps ws extra (suc t) (f + absent p held) (after m held p w) (omega arith))
+
+pub check-extra : (m : ℕ) (trace words extra : List ℕ) → length words ≡ length trace → check m trace (words ++ extra) ≡ check m trace words
+unfolding check
+check-extra m trace words extra e = check-extra-from m trace words extra 0 0 [] e
