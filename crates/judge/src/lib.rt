@@ -1,0 +1,198 @@
+// Document 01's services Check and Better of two.
+// A plan is checked by one walk over its trace; what is wrong with an entry is said by one function, `judge_entry`.
+// Better of two has one choice, `better`, behind both of its questions.
+ghost use mathlib.Core.Path.{_≡_};
+ghost use mathlib.Core.Bool.{true, false};
+ghost use Prim.Native.Nat.{_+_, _<_, _≤_};
+ghost use lib.ListN.{length};
+ghost use Rattle.paging.specs.Calls.{requestLimit, frameLimit};
+ghost use Rattle.paging.specs.Plans.{mem, placeOf, judged, after, absent, check};
+ghost use Rattle.judge.specs.Check.{pagesOf, checkOf};
+ghost use Rattle.judge.specs.Better.{fewer, betterOf, wordsOf, lenderOf, verdictNumbers};
+use paging::Answer;
+use paging::Gate;
+use paging::Refusal;
+
+// The walk so far: its faults, and the pages held in frame order, which are the first `count` of `pages`.
+struct Walk {
+    faults: u32,
+    count: usize,
+    pages: [u32; 256],
+}
+
+// Which plan, and its faults; or the first plan's refusal.
+pub enum Verdict {
+    First(u32),
+    Second(u32),
+    Neither(Refusal),
+}
+
+// The numbers of a verdict: which plan, its faults, and a refusal's number and place. What a verdict lacks is 0.
+pub struct VerdictNumbers {
+    pub which: u32,
+    pub faults: u32,
+    pub number: u32,
+    pub place: u32,
+}
+
+impl Walk {
+    fn start() -> Walk
+        ensures { λ r. ⌜ (r .faults ≡ 0) × (r .count ≡ 0) ⌝ }
+    {
+        let pages = [0u32; 256];
+        Walk {
+            faults: 0,
+            count: 0,
+            pages: pages,
+        }
+    }
+
+    // The frame that holds the page; the number of pages held, if none does.
+    fn frame_of(self, p: u32) -> usize
+        requires { ⌜ self .count ≤ frameLimit ⌝ }
+        ensures { λ r. ⌜ r ≡ placeOf p (pagesOf self) ⌝ }
+    {
+        let n = self.count;
+        let pages = self.pages;
+        calls::place_of(p, &pages[..n])
+    }
+
+    // What is wrong with the entry `w` for a request of page `p` at moment `t` in `m` frames.
+    fn judge_entry(self, m: usize, t: u32, p: u32, w: u32) -> Gate
+        requires { ⌜ self .count ≤ frameLimit ⌝ }
+        ensures { λ r. ⌜ r ≡ judged m t (pagesOf self) p w ⌝ }
+    {
+        let n = self.count;
+        if self.frame_of(p) < n {
+            if w == paging::MARK {
+                return Gate::Open;
+            }
+            return Gate::No(Refusal::PlanBroken(t));
+        }
+        if n < m {
+            if w == paging::MARK {
+                return Gate::Open;
+            }
+            return Gate::No(Refusal::PlanBroken(t));
+        }
+        if self.frame_of(w) < n {
+            return Gate::Open;
+        }
+        Gate::No(Refusal::PlanBroken(t))
+    }
+
+    // The walk after a request of page `p`. Where a page must go, the entry `w` is a page that is held.
+    fn served(self, m: usize, p: u32, w: u32) -> Walk
+        requires { ⌜ (m ≤ frameLimit) × (self .count ≤ m) × (self .faults < requestLimit) × (mem p (pagesOf self) ≡ false → m ≤ length (pagesOf self) → mem w (pagesOf self) ≡ true) ⌝ }
+        ensures { λ r. ⌜ (pagesOf r ≡ after m (pagesOf self) p w) × (r .faults ≡ self .faults + absent p (pagesOf self)) × (r .count ≤ m) ⌝ }
+    {
+        let n = self.count;
+        if self.frame_of(p) < n {
+            return self;
+        }
+        let mut next = self;
+        next.faults = self.faults + 1;
+        if n < m {
+            next.pages[n] = p;
+            next.count = n + 1;
+            return next;
+        }
+        let at = self.frame_of(w);
+        next.pages[at] = p;
+        next
+    }
+}
+
+// The walk of a plan from an empty cache, where refusals 2, 3, 4 and 6 are not given.
+fn walked(m: usize, trace: &[u32], words: &[u32]) -> Answer
+    requires { ⌜ (m ≤ frameLimit) × (length (now trace) ≤ requestLimit) × (length (now trace) ≤ length (now words)) ⌝ }
+    ensures { λ r. ⌜ r ≡ check m (now (trace .entry)) (now (words .entry)) ⌝ }
+{
+    let mut walk = Walk::start();
+    let mut i = 0;
+    while i < trace.len() {
+        let p = trace[i];
+        let w = words[i];
+        if let Gate::No(refusal) = walk.judge_entry(m, i as u32, p, w) {
+            return Answer::Refused(refusal);
+        }
+        walk = walk.served(m, p, w);
+        i += 1;
+    }
+    Answer::Faults(walk.faults)
+}
+
+// Check: the faults of the plan in the first T words; else refusal 2, 3, 4 or 6, or 7 at the first entry that breaks the rule.
+pub fn check(m: u32, trace: &[u32], words: &[u32]) -> Answer
+    ensures { λ r. ⌜ r ≡ checkOf m (now (trace .entry)) (now (words .entry)) ⌝ }
+{
+    match calls::lent_gate(calls::trace_gate(m, trace), trace.len(), words.len()) {
+        Gate::No(refusal) => Answer::Refused(refusal),
+        Gate::Open => walked(m as usize, trace, words),
+    }
+}
+
+// The plan with fewer faults, of two answers of Check.
+fn fewer(first: Answer, second: Answer) -> Verdict
+    ensures { λ r. ⌜ r ≡ fewer first second ⌝ }
+{
+    match first {
+        Answer::Faults(f) => match second {
+            Answer::Faults(g) => {
+                if g < f {
+                    return Verdict::Second(g);
+                }
+                Verdict::First(f)
+            }
+            Answer::Refused(_) => Verdict::First(f),
+        },
+        Answer::Refused(refusal) => match second {
+            Answer::Faults(g) => Verdict::Second(g),
+            Answer::Refused(_) => Verdict::Neither(refusal),
+        },
+    }
+}
+
+// Better of two, the verdict: the plan with fewer faults, and its count. Equal: the first. Neither accepted: the first plan's refusal.
+pub fn better(m: u32, trace: &[u32], first: &[u32], second: &[u32]) -> Verdict
+    ensures { λ r. ⌜ r ≡ betterOf m (now (trace .entry)) (now (first .entry)) (now (second .entry)) ⌝ }
+{
+    fewer(check(m, trace, first), check(m, trace, second))
+}
+
+// Better of two, the words: the first T words of the plan that the verdict names, as they were lent.
+pub fn better_words<'a>(m: u32, trace: &[u32], first: &'a [u32], second: &'a [u32]) -> &'a [u32]
+    ensures { λ r. ⌜ (now r ≡ wordsOf (betterOf m (now (trace .entry)) (now (first .entry)) (now (second .entry))) (length (now (trace .entry))) (now (first .entry)) (now (second .entry))) × (r .ptr ≡ lenderOf (betterOf m (now (trace .entry)) (now (first .entry)) (now (second .entry))) (first .entry .ptr) (second .entry .ptr)) ⌝ }
+{
+    match better(m, trace, first, second) {
+        Verdict::First(_) => &first[..trace.len()],
+        Verdict::Second(_) => &second[..trace.len()],
+        Verdict::Neither(_) => &first[..0],
+    }
+}
+
+// Document 01's numbers of a verdict.
+pub fn verdict_numbers(verdict: Verdict) -> VerdictNumbers
+    ensures { λ r. ⌜ r ≡ verdictNumbers verdict ⌝ }
+{
+    match verdict {
+        Verdict::First(faults) => VerdictNumbers {
+            which: 1,
+            faults: faults,
+            number: 0,
+            place: 0,
+        },
+        Verdict::Second(faults) => VerdictNumbers {
+            which: 2,
+            faults: faults,
+            number: 0,
+            place: 0,
+        },
+        Verdict::Neither(refusal) => VerdictNumbers {
+            which: 0,
+            faults: 0,
+            number: refusal.number(),
+            place: refusal.place(),
+        },
+    }
+}
