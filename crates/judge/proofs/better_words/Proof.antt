@@ -1,49 +1,41 @@
+-- `judge::better_words` meets its contract: the verdict's plan was accepted, so it has T words at least.
+-- Assumes nothing.
 use borrow.Author.Needs.{needs}
+use mathlib.Core.Path.{_≡_, refl, sym, _∙_}
+use lib.Seq.{length-take-le}
+use Rattle.judge.proofs.Choice.{words-first, words-second}
 use Rattle.judge.proofs.better_words.Statement.{statement}
 use Rattle.judge.proofs.better_words.Tie as tie
-use Rattle.judge.proofs.better_words.Reads as reads
-use Rattle.judge.proofs.better_words.Lts as lts
-use Rattle.judge.proofs.better.Reads as better-reads
 
--- src/lib.rt:167:11
 better-requires : tie.Need-better-requires
 better-requires c κs = search needs
 
--- src/lib.rt:168:39
 enum-told : tie.Need-enum-told
 enum-told c = search needs
 
--- src/lib.rt:168:30
 slice-aggregate-result : tie.Need-slice-aggregate-result
-slice-aggregate-result c = ?
+slice-aggregate-result c = sym (length-take-le _ _ (words-first _ _ _ _ _ (sym (c .before .before .before .better .ensures) ∙ c .before .enum-told .given .1) .0))
 
--- src/lib.rt:169:41
 enum-told-2 : tie.Need-enum-told-2
 enum-told-2 c = search needs
 
--- src/lib.rt:169:31
 slice-aggregate-result-2 : tie.Need-slice-aggregate-result-2
-slice-aggregate-result-2 c = ?
+slice-aggregate-result-2 c = sym (length-take-le _ _ (words-second _ _ _ _ _ (sym (c .before .before .before .better .ensures) ∙ c .before .enum-told2 .given .1) .0))
 
--- src/lib.rt:170:32
 enum-told-3 : tie.Need-enum-told-3
 enum-told-3 c = search needs
 
--- src/lib.rt:170:32
 slice-aggregate-result-3 : tie.Need-slice-aggregate-result-3
 slice-aggregate-result-3 c = search needs
 
--- src/lib.rt:164:1
 returns : tie.Need-returns
-returns c = ?
+returns c = rw (← c .before .before .before .better .ensures, c .before .enum-told .given .1) (refl, refl)
 
--- src/lib.rt:164:1
 returns-2 : tie.Need-returns-2
-returns-2 c = ?
+returns-2 c = rw (← c .before .before .before .better .ensures, c .before .enum-told2 .given .1) (refl, refl)
 
--- src/lib.rt:164:1
 returns-3 : tie.Need-returns-3
-returns-3 c = ?
+returns-3 c = rw (← c .before .before .before .better .ensures, c .before .enum-told3 .given .1) (refl, refl)
 
 pub better-words-spec : {M : Type 1} → statement M
 better-words-spec =

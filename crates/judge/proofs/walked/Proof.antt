@@ -22,7 +22,7 @@ start-requires c κs = search needs
 
 loop-holds : tie.Need-loop-holds Inv-loop μ-loop
 unfolding check
-loop-holds c = 
+loop-holds c =
     (omega arith, omega arith, omega arith, rw (c .start .ensures .0, c .start .ensures .1))
 
 mul-p : tie.Need-mul-p Inv-loop μ-loop
@@ -47,7 +47,7 @@ enum-known-refusal : tie.Need-enum-known-refusal Inv-loop μ-loop
 enum-known-refusal c = search needs
 
 returns : tie.Need-returns Inv-loop μ-loop
-returns c = 
+returns c =
     let s = c .before .before .before .before .before .before .before .before .before .before .before in
     let l = c .before .before .before .before .before .before .before in
     sym (check-stop _ _ _ _ _ _ (c .before .before .before .before .before .before .loop-test .taken) (s .pre .2) _ (sym (c .before .before .before .judge-entry .ensures) ∙ c .before .refusal .given .1)) ∙ l .loop .inv .3
@@ -56,9 +56,8 @@ enum-told : tie.Need-enum-told Inv-loop μ-loop
 enum-told c = search needs
 
 served-requires : tie.Need-served-requires Inv-loop μ-loop
-served-requires c κs = 
-    let s = c .before .before .before .before .before .before .before .before .before .before in
-    (
+served-requires c κs =
+    let s = c .before .before .before .before .before .before .before .before .before .before in (
       s .pre .0,
       c .before .before .before .before .before .before .loop .inv .1,
       omega (arith, s .pre .1),
@@ -72,11 +71,10 @@ loop-less : tie.Need-loop-less Inv-loop μ-loop
 loop-less c = search needs
 
 loop-again : tie.Need-loop-again Inv-loop μ-loop
-loop-again c = 
+loop-again c =
     let s = c .before .before .before .before .before .before .before .before .before .before .before in
     let l = c .before .before .before .before .before .before .before in
-    let (pages, faults, count) = c .served .ensures in
-    (
+    let (pages, faults, count) = c .served .ensures in (
       omega arith,
       count,
       rw faults (omega (arith, absent-le (getD (s .args .trace .now) (l .loop .i) 0) (pagesOf (l .loop .walk)))),

@@ -49,13 +49,13 @@ frame-of-requires-2 c κs = search needs
 
 returns-5 : tie.Need-returns-5
 unfolding judged
-returns-5 c = 
+returns-5 c =
     let s = c .before .before .before .before .before in
     rw (miss (c .before .before .before), full (c .before .before), found (s .args .self) _ (s .good .0) (s .pre) _ _ (c .before .frame-of2 .ensures) (c .if5 .taken))
 
 returns-6 : tie.Need-returns-6
 unfolding judged
-returns-6 c = 
+returns-6 c =
     let s = c .before .before .before .before .before in
     rw (miss (c .before .before .before), full (c .before .before), lost (s .args .self) _ (s .good .0) (s .pre) _ _ (c .before .frame-of2 .ensures) (c .if5 .left))
 

@@ -31,7 +31,7 @@ frame-of-requires : tie.Need-frame-of-requires
 frame-of-requires c κs = search needs
 
 returns : tie.Need-returns
-returns c = 
+returns c =
     let s = c .before .before in
     let h = found (s .args .self) _ (s .good .0) (few s) _ _ (c .before .frame-of .ensures) (c .if1 .taken) in
     (sym (after-hit _ _ _ _ h), rw h (omega arith), s .pre .1)
@@ -49,11 +49,10 @@ add-next-2 : tie.Need-add-next-2
 add-next-2 c = search needs
 
 returns-2 : tie.Need-returns-2
-returns-2 c = 
+returns-2 c =
     let s = c .before .before .before .before in
     let h = miss (c .before .before) in
-    let l = held-length (s .args .self) _ (s .good .0) (few s) in
-    (
+    let l = held-length (s .args .self) _ (s .good .0) (few s) in (
       stored-next (s .args .self) _ (s .good .0) (few s) (s .args .p) (omega arith) ∙ sym (after-room _ _ _ _ h (rw l (c .if2 .taken))),
       rw h,
       omega arith,
@@ -69,11 +68,10 @@ element-write-next-2 : tie.Need-element-write-next-2
 element-write-next-2 c = omega (arith, below c)
 
 returns-3 : tie.Need-returns-3
-returns-3 c = 
+returns-3 c =
     let s = c .before .before .before .before .before in
     let h = miss (c .before .before .before) in
-    let l = held-length (s .args .self) _ (s .good .0) (few s) in
-    (
+    let l = held-length (s .args .self) _ (s .good .0) (few s) in (
       take-set-lt _ _ _ _ (below c) ∙ ap (λ (f : ℕ). set (pagesOf (s .args .self)) f (s .args .p)) (c .frame-of2 .ensures) ∙ sym (after-full _ _ _ _ h (rw l (c .before .if2 .left))),
       rw h,
       s .pre .1,
