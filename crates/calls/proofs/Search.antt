@@ -13,7 +13,7 @@ use lib.Seq.{drop-cons}
 use borrow.Author.Tests.{eq-eqb, ne-eqb}
 use Rattle.paging.specs.Lists.{pick, any, indexOf}
 use Rattle.paging.specs.Plans.{mem, placeOf}
-use Rattle.paging.proofs.Lists.{bool-cases, any-index, index-passes, at-any}
+use Rattle.paging.proofs.Lists.{bool-cases, index-le, any-index, index-passes, at-any}
 
 module _ (p : ℕ) (pages : List ℕ) (i : ℕ) where
   -- the page stands here
@@ -34,6 +34,10 @@ module _ (p : ℕ) (pages : List ℕ) (i : ℕ) where
 -- ---- found or not
 
 module _ (p : ℕ) (pages : List ℕ) where
+  pub place-le : placeOf p pages ≤ length pages
+  unfolding placeOf
+  place-le = index-le (λ (q : ℕ). eqb q p) 0 pages
+
   pub found-mem : placeOf p pages < length pages → mem p pages ≡ true
   unfolding mem placeOf
   found-mem h = at-any (λ (q : ℕ). eqb q p) 0 pages (placeOf p pages) h (index-passes (λ (q : ℕ). eqb q p) 0 pages h)

@@ -10,13 +10,16 @@ ghost use Rattle.paging.specs.Plans.{mem, placeOf, judged, after, absent, check
 ghost use Rattle.judge.specs.Check.{pagesOf, checkOf};
 ghost use Rattle.judge.specs.Better.{fewer, betterOf, wordsOf, lenderOf, verdictNumbers};
 use paging::Answer;
+use paging::Frame;
 use paging::Gate;
+use paging::Moment;
+use paging::Page;
 use paging::Refusal;
 
 // The walk so far: its faults, and the pages held in frame order, which are the first `count` of `pages`.
 struct Walk {
     faults: u32,
-    count: usize,
+    count: u32,
     pages: [u32; 256],
 }
 
@@ -48,72 +51,73 @@ impl Walk {
     }
 
     // The frame that holds the page; the number of pages held, if none does.
-    fn frame_of(self, p: u32) -> usize
+    fn frame_of(self, p: Page) -> Frame
         requires { ⌜ self .count ≤ frameLimit ⌝ }
-        ensures { λ r. ⌜ r ≡ placeOf p (pagesOf self) ⌝ }
+        ensures { λ r. ⌜ r .0 ≡ placeOf (p .0) (pagesOf self) ⌝ }
     {
-        let n = self.count;
+        let n = self.count as usize;
         let pages = self.pages;
-        calls::place_of(p, &pages[..n])
+        let at = calls::place_of(p.0, &pages[..n]);
+        Frame(at as u32)
     }
 
     // What is wrong with the entry `w` for a request of page `p` at moment `t` in `m` frames.
-    fn judge_entry(self, m: usize, t: u32, p: u32, w: u32) -> Gate
+    fn judge_entry(self, m: u32, t: Moment, p: Page, w: Page) -> Gate
         requires { ⌜ self .count ≤ frameLimit ⌝ }
-        ensures { λ r. ⌜ r ≡ judged m t (pagesOf self) p w ⌝ }
+        ensures { λ r. ⌜ r ≡ judged m (t .0) (pagesOf self) (p .0) (w .0) ⌝ }
     {
         let n = self.count;
-        if self.frame_of(p) < n {
-            if w == paging::MARK {
+        if self.frame_of(p).0 < n {
+            if w.0 == paging::MARK {
                 return Gate::Open;
             }
-            return Gate::No(Refusal::PlanBroken(t));
+            return Gate::No(Refusal::PlanBroken(t.0));
         }
         if n < m {
-            if w == paging::MARK {
+            if w.0 == paging::MARK {
                 return Gate::Open;
             }
-            return Gate::No(Refusal::PlanBroken(t));
+            return Gate::No(Refusal::PlanBroken(t.0));
         }
-        if self.frame_of(w) < n {
+        if self.frame_of(w).0 < n {
             return Gate::Open;
         }
-        Gate::No(Refusal::PlanBroken(t))
+        Gate::No(Refusal::PlanBroken(t.0))
     }
 
     // The walk after a request of page `p`. Where a page must go, the entry `w` is a page that is held.
-    fn served(self, m: usize, p: u32, w: u32) -> Walk
-        requires { ⌜ (m ≤ frameLimit) × (self .count ≤ m) × (self .faults < requestLimit) × (mem p (pagesOf self) ≡ false → m ≤ length (pagesOf self) → mem w (pagesOf self) ≡ true) ⌝ }
-        ensures { λ r. ⌜ (pagesOf r ≡ after m (pagesOf self) p w) × (r .faults ≡ self .faults + absent p (pagesOf self)) × (r .count ≤ m) ⌝ }
+    fn served(self, m: u32, p: Page, w: Page) -> Walk
+        requires { ⌜ (m ≤ frameLimit) × (self .count ≤ m) × (self .faults < requestLimit) × (mem (p .0) (pagesOf self) ≡ false → m ≤ length (pagesOf self) → mem (w .0) (pagesOf self) ≡ true) ⌝ }
+        ensures { λ r. ⌜ (pagesOf r ≡ after m (pagesOf self) (p .0) (w .0)) × (r .faults ≡ self .faults + absent (p .0) (pagesOf self)) × (r .count ≤ m) ⌝ }
     {
         let n = self.count;
-        if self.frame_of(p) < n {
+        if self.frame_of(p).0 < n {
             return self;
         }
         let mut next = self;
         next.faults = self.faults + 1;
         if n < m {
-            next.pages[n] = p;
+            next.pages[n as usize] = p.0;
             next.count = n + 1;
             return next;
         }
-        let at = self.frame_of(w);
-        next.pages[at] = p;
+        let at = self.frame_of(w).0 as usize;
+        next.pages[at] = p.0;
         next
     }
 }
 
 // The walk of a plan from an empty cache, where refusals 2, 3, 4 and 6 are not given.
-fn walked(m: usize, trace: &[u32], words: &[u32]) -> Answer
+fn walked(m: u32, trace: &[u32], words: &[u32]) -> Answer
     requires { ⌜ (m ≤ frameLimit) × (length (now trace) ≤ requestLimit) × (length (now trace) ≤ length (now words)) ⌝ }
     ensures { λ r. ⌜ r ≡ check m (now (trace .entry)) (now (words .entry)) ⌝ }
 {
     let mut walk = Walk::start();
     let mut i = 0;
     while i < trace.len() {
-        let p = trace[i];
-        let w = words[i];
-        if let Gate::No(refusal) = walk.judge_entry(m, i as u32, p, w) {
+        let p = Page(trace[i]);
+        let w = Page(words[i]);
+        if let Gate::No(refusal) = walk.judge_entry(m, Moment(i as u32), p, w) {
             return Answer::Refused(refusal);
         }
         walk = walk.served(m, p, w);
@@ -128,7 +132,7 @@ pub fn check(m: u32, trace: &[u32], words: &[u32]) -> Answer
 {
     match calls::lent_gate(calls::trace_gate(m, trace), trace.len(), words.len()) {
         Gate::No(refusal) => Answer::Refused(refusal),
-        Gate::Open => walked(m as usize, trace, words),
+        Gate::Open => walked(m, trace, words),
     }
 }
 

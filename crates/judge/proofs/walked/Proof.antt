@@ -25,20 +25,20 @@ unfolding check
 loop-holds c =
     (omega arith, omega arith, omega arith, rw (c .start .ensures .0, c .start .ensures .1))
 
-mul-p : tie.Need-mul-p Inv-loop μ-loop
-mul-p c = search needs
+mul-t9 : tie.Need-mul-t9 Inv-loop μ-loop
+mul-t9 c = search needs
 
-shared-slice-read-p : tie.Need-shared-slice-read-p Inv-loop μ-loop
-shared-slice-read-p c = search needs
+shared-slice-read-t12 : tie.Need-shared-slice-read-t12 Inv-loop μ-loop
+shared-slice-read-t12 c = search needs
 
-mul-w : tie.Need-mul-w Inv-loop μ-loop
-mul-w c = search needs
+mul-t9-2 : tie.Need-mul-t9-2 Inv-loop μ-loop
+mul-t9-2 c = search needs
 
-shared-slice-read-w : tie.Need-shared-slice-read-w Inv-loop μ-loop
-shared-slice-read-w c = search needs
+shared-slice-read-t12-2 : tie.Need-shared-slice-read-t12-2 Inv-loop μ-loop
+shared-slice-read-t12-2 c = search needs
 
-cast-judge-entry : tie.Need-cast-judge-entry Inv-loop μ-loop
-cast-judge-entry c = search needs
+cast-t12 : tie.Need-cast-t12 Inv-loop μ-loop
+cast-t12 c = search needs
 
 judge-entry-requires : tie.Need-judge-entry-requires Inv-loop μ-loop
 judge-entry-requires c κs = search needs
@@ -92,11 +92,11 @@ walked-spec =
     μ-loop
     start-requires
     loop-holds
-    mul-p
-    shared-slice-read-p
-    mul-w
-    shared-slice-read-w
-    cast-judge-entry
+    mul-t9
+    shared-slice-read-t12
+    mul-t9-2
+    shared-slice-read-t12-2
+    cast-t12
     judge-entry-requires
     enum-known-refusal
     returns

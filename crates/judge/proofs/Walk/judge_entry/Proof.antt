@@ -13,36 +13,36 @@ use Rattle.judge.proofs.Walks.{held-length, found, lost}
 use Rattle.judge.proofs.Walk.judge_entry.Statement.{statement}
 use Rattle.judge.proofs.Walk.judge_entry.Tie as tie
 
-hit : (c : tie.Then1) → mem (c .before .before .args .p) (pagesOf (c .before .before .args .self)) ≡ true
-hit c = let s = c .before .before in found (s .args .self) _ (s .good .0) (s .pre) _ _ (c .before .frame-of .ensures) (c .if1 .taken)
+hit : (c : tie.Then1) → mem (c .before .before .before .args .p .0) (pagesOf (c .before .before .before .args .self)) ≡ true
+hit c = let s = c .before .before .before in found (s .args .self) _ (s .good .0) (s .pre) _ _ (c .before .before .frame-of .ensures) (c .if1 .taken)
 
-miss : (c : tie.Else1) → mem (c .before .before .args .p) (pagesOf (c .before .before .args .self)) ≡ false
-miss c = let s = c .before .before in lost (s .args .self) _ (s .good .0) (s .pre) _ _ (c .before .frame-of .ensures) (c .if1 .left)
+miss : (c : tie.Else1) → mem (c .before .before .before .args .p .0) (pagesOf (c .before .before .before .args .self)) ≡ false
+miss c = let s = c .before .before .before in lost (s .args .self) _ (s .good .0) (s .pre) _ _ (c .before .before .frame-of .ensures) (c .if1 .left)
 
-room : (c : tie.Then3) → ltb (length (pagesOf (c .before .before .before .args .self))) (c .before .before .before .args .m) ≡ true
-room c = let s = c .before .before .before in rw (held-length (s .args .self) _ (s .good .0) (s .pre)) (lt-ltb _ _ (c .if3 .taken))
+room : (c : tie.Then3) → ltb (length (pagesOf (c .before .before .before .before .args .self))) (c .before .before .before .before .args .m) ≡ true
+room c = let s = c .before .before .before .before in rw (held-length (s .args .self) _ (s .good .0) (s .pre)) (lt-ltb _ _ (c .if3 .taken))
 
-full : (c : tie.Else3) → ltb (length (pagesOf (c .before .before .before .args .self))) (c .before .before .before .args .m) ≡ false
-full c = let s = c .before .before .before in rw (held-length (s .args .self) _ (s .good .0) (s .pre)) (le-ltb _ _ (c .if3 .left))
+full : (c : tie.Else3) → ltb (length (pagesOf (c .before .before .before .before .args .self))) (c .before .before .before .before .args .m) ≡ false
+full c = let s = c .before .before .before .before in rw (held-length (s .args .self) _ (s .good .0) (s .pre)) (le-ltb _ _ (c .if3 .left))
 
 frame-of-requires : tie.Need-frame-of-requires
 frame-of-requires c κs = search needs
 
 returns : tie.Need-returns
 unfolding judged
-returns c = rw (hit (c .before), eq-eqb _ _ (c .if2 .taken))
+returns c = rw (hit (c .before .before), eq-eqb _ _ (c .if2 .taken))
 
 returns-2 : tie.Need-returns-2
 unfolding judged
-returns-2 c = rw (hit (c .before), ne-eqb _ _ (c .if2 .left))
+returns-2 c = rw (hit (c .before .before), ne-eqb _ _ (c .if2 .left))
 
 returns-3 : tie.Need-returns-3
 unfolding judged
-returns-3 c = rw (miss (c .before .before), room (c .before), eq-eqb _ _ (c .if4 .taken))
+returns-3 c = rw (miss (c .before .before .before), room (c .before .before), eq-eqb _ _ (c .if4 .taken))
 
 returns-4 : tie.Need-returns-4
 unfolding judged
-returns-4 c = rw (miss (c .before .before), room (c .before), ne-eqb _ _ (c .if4 .left))
+returns-4 c = rw (miss (c .before .before .before), room (c .before .before), ne-eqb _ _ (c .if4 .left))
 
 frame-of-requires-2 : tie.Need-frame-of-requires-2
 frame-of-requires-2 c κs = search needs
@@ -50,14 +50,14 @@ frame-of-requires-2 c κs = search needs
 returns-5 : tie.Need-returns-5
 unfolding judged
 returns-5 c =
-    let s = c .before .before .before .before .before in
-    rw (miss (c .before .before .before), full (c .before .before), found (s .args .self) _ (s .good .0) (s .pre) _ _ (c .before .frame-of2 .ensures) (c .if5 .taken))
+    let s = c .before .before .before .before .before .before .before in
+    rw (miss (c .before .before .before .before), full (c .before .before .before), found (s .args .self) _ (s .good .0) (s .pre) _ _ (c .before .before .frame-of2 .ensures) (c .if5 .taken))
 
 returns-6 : tie.Need-returns-6
 unfolding judged
 returns-6 c =
-    let s = c .before .before .before .before .before in
-    rw (miss (c .before .before .before), full (c .before .before), lost (s .args .self) _ (s .good .0) (s .pre) _ _ (c .before .frame-of2 .ensures) (c .if5 .left))
+    let s = c .before .before .before .before .before .before .before in
+    rw (miss (c .before .before .before .before), full (c .before .before .before), lost (s .args .self) _ (s .good .0) (s .pre) _ _ (c .before .before .frame-of2 .ensures) (c .if5 .left))
 
 pub judge-entry-spec : {M : Type 1} → statement M
 judge-entry-spec =
