@@ -4,7 +4,11 @@
 ghost use mathlib.Core.Path.{_≡_};
 ghost use mathlib.Core.Bool.{true, false};
 ghost use Prim.Native.Nat.{_+_, _<_, _≤_};
+ghost use lib.Dec.{eqb};
 ghost use lib.ListN.{length};
+ghost use Rattle.paging.specs.Lists.{pick};
+ghost use Rattle.paging.specs.Rules.{mark};
+ghost use Rattle.paging.specs.declared.Gate.the-variants.{Open, No};
 ghost use Rattle.paging.specs.Calls.{requestLimit, frameLimit};
 ghost use Rattle.paging.specs.Plans.{mem, placeOf, judged, after, absent, check};
 ghost use Rattle.judge.specs.Check.{pagesOf, checkOf};
@@ -38,6 +42,16 @@ pub struct VerdictNumbers {
     pub place: u32,
 }
 
+// An entry that must be the mark, and the refusal that it gets otherwise.
+fn mark_only(w: Page, otherwise: Refusal) -> Gate
+    ensures { λ r. ⌜ r ≡ pick (eqb (w .0) mark) Open (No otherwise) ⌝ }
+{
+    if w.0 == paging::MARK {
+        return Gate::Open;
+    }
+    Gate::No(otherwise)
+}
+
 impl Walk {
     fn start() -> Walk
         ensures { λ r. ⌜ (r .faults ≡ 0) × (r .count ≡ 0) ⌝ }
@@ -66,20 +80,14 @@ impl Walk {
         requires { ⌜ self .count ≤ frameLimit ⌝ }
         ensures { λ r. ⌜ r ≡ judged m (t .0) (pagesOf self) (p .0) (w .0) ⌝ }
     {
-        let n = self.count;
-        if self.frame_of(p).0 < n {
-            if w.0 == paging::MARK {
-                return Gate::Open;
-            }
-            return Gate::No(Refusal::PlanBroken(t.0));
+        let held = self.count;
+        if self.frame_of(p).0 < held {
+            return mark_only(w, Refusal::PlanBroken(t.0));
         }
-        if n < m {
-            if w.0 == paging::MARK {
-                return Gate::Open;
-            }
-            return Gate::No(Refusal::PlanBroken(t.0));
+        if held < m {
+            return mark_only(w, Refusal::PlanBroken(t.0));
         }
-        if self.frame_of(w).0 < n {
+        if self.frame_of(w).0 < held {
             return Gate::Open;
         }
         Gate::No(Refusal::PlanBroken(t.0))
