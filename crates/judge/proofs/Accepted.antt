@@ -13,7 +13,6 @@ use lib.Dec.{ltb}
 use lib.ListN.{length, take}
 use lib.Seq.{length-take-le, take-all}
 use borrow.Author.Tests.{le-ltb}
-use Rattle.paging.specs.Lists.{pick}
 use Rattle.paging.specs.Plans.{judged, after, absent, through, checkFrom, check}
 use Rattle.paging.specs.Calls.{gate, traceTests, lentTests}
 use Rattle.paging.specs.declared.Gate.{Gate}

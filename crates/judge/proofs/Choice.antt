@@ -2,9 +2,9 @@
 --
 -- In order: two answers; the verdict; the words; the two plans swapped.
 -- Assumes nothing.
-use mathlib.Core.Path.{_≡_, refl, sym, ap, _∙_}
+use mathlib.Core.Path.{_≡_, refl, ap, _∙_}
 use mathlib.Core.Bool.{Bool, true, false}
-use mathlib.Core.List.{List, [], _∷_, _++_}
+use mathlib.Core.List.{List}
 use Prim.Native.Nat.{ℕ, _≤_, _<_}
 use native.Mathlib.Omega.{arith}
 use native.Mathlib.Decide.{ℕ-discrete}
@@ -12,15 +12,12 @@ use lib.Dec.{leb}
 use lib.ListN.{length, take}
 use borrow.Author.Tests.{leb-true, leb-false, le-leb, lt-leb}
 use Rattle.paging.specs.Lists.{pick}
-use Rattle.paging.specs.Plans.{through, check}
 use Rattle.paging.specs.Calls.{gate, traceTests, lentTests}
-use Rattle.paging.specs.declared.Gate.{Gate}
-use Rattle.paging.specs.declared.Gate.the-variants.{Open, No}
+use Rattle.paging.specs.declared.Gate.the-variants.{No}
 use Rattle.paging.specs.declared.Answer.{Answer}
 use Rattle.paging.specs.declared.Answer.the-variants.{Faults, Refused}
 use Rattle.paging.specs.declared.Refusal.{Refusal}
 use Rattle.calls.proofs.Chain.{gate-append}
-use Rattle.judge.specs.declared.Verdict.{Verdict}
 use Rattle.judge.specs.declared.Verdict.the-variants.{First, Second, Neither}
 use Rattle.judge.specs.Check.{checkOf}
 use Rattle.judge.specs.Better.{fewer, betterOf, wordsOf}

@@ -1,10 +1,9 @@
 -- Document 01, the service Better of two: the verdict, the words that it hands back, and the verdict's numbers.
 -- Assumes nothing.
 use mathlib.Core.List.{List}
-use mathlib.Core.Bool.{Bool, true, false}
 use Prim.Native.Nat.{ℕ}
 use lib.Dec.{leb}
-use lib.ListN.{length, take}
+use lib.ListN.{take}
 use Rattle.paging.specs.Lists.{pick}
 use Rattle.paging.specs.Refusals.{table}
 use Rattle.paging.specs.declared.Answer.{Answer}

@@ -1,7 +1,7 @@
 -- `judge::better_words` meets its contract: the verdict's plan was accepted, so it has T words at least.
 -- Assumes nothing.
 use borrow.Author.Needs.{needs}
-use mathlib.Core.Path.{_≡_, refl, sym, _∙_}
+use mathlib.Core.Path.{refl, sym, _∙_}
 use lib.Seq.{length-take-le}
 use Rattle.judge.proofs.Choice.{words-first, words-second}
 use Rattle.judge.proofs.better_words.Statement.{statement}

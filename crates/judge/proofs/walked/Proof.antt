@@ -1,6 +1,6 @@
 -- `judge::walked` meets its contract. The loop's invariant: the check from here on, with the faults and pages of the walk so far, gives the whole.
 -- Assumes nothing.
-use mathlib.Core.Path.{_≡_, sym, ap, _∙_}
+use mathlib.Core.Path.{_≡_, sym, _∙_}
 use Prim.Native.Nat.{_-_, _≤_}
 use native.Mathlib.Omega.{arith}
 use borrow.Author.Needs.{needs}
@@ -12,7 +12,11 @@ use Rattle.judge.proofs.walked.Statement.{statement}
 use Rattle.judge.proofs.walked.Tie as tie
 
 abbrev Inv-loop : tie.InvT-loop
-Inv-loop m trace words walk₀ i₀ walk i = (i ≤ length trace) × (walk .count ≤ m) × (walk .faults ≤ i) × (checkFrom m i (walk .faults) (pagesOf walk) (drop i trace) (drop i words) ≡ check m trace words)
+Inv-loop m trace words walk₀ i₀ walk i =
+    (i ≤ length trace)
+    × (walk .count ≤ m)
+    × (walk .faults ≤ i)
+    × (checkFrom m i (walk .faults) (pagesOf walk) (drop i trace) (drop i words) ≡ check m trace words)
 
 abbrev μ-loop : tie.MeasureT-loop
 μ-loop m trace words walk₀ i₀ walk i = length trace - i
@@ -22,8 +26,7 @@ start-requires c κs = search needs
 
 loop-holds : tie.Need-loop-holds Inv-loop μ-loop
 unfolding check
-loop-holds c =
-    (omega arith, omega arith, omega arith, rw (c .start .ensures .0, c .start .ensures .1))
+loop-holds c = (omega arith, omega arith, omega arith, rw (c .start .ensures .0, c .start .ensures .1))
 
 mul-t9 : tie.Need-mul-t9 Inv-loop μ-loop
 mul-t9 c = search needs
@@ -50,7 +53,8 @@ returns : tie.Need-returns Inv-loop μ-loop
 returns c =
     let s = c .before .before .before .before .before .before .before .before .before .before .before in
     let l = c .before .before .before .before .before .before .before in
-    sym (check-stop _ _ _ _ _ _ (c .before .before .before .before .before .before .loop-test .taken) (s .pre .2) _ (sym (c .before .before .before .judge-entry .ensures) ∙ c .before .refusal .given .1)) ∙ l .loop .inv .3
+    let test = c .before .before .before .before .before .before .loop-test .taken in
+    sym (check-stop _ _ _ _ _ _ test (s .pre .2) _ _ (c .before .before .before .judge-entry .ensures) (c .before .refusal .given .1)) ∙ l .loop .inv .3
 
 enum-told : tie.Need-enum-told Inv-loop μ-loop
 enum-told c = search needs
@@ -61,7 +65,7 @@ served-requires c κs =
       s .pre .0,
       c .before .before .before .before .before .before .loop .inv .1,
       omega (arith, s .pre .1),
-      passed-held _ _ _ _ _ (sym (c .before .before .judge-entry .ensures) ∙ c .enum-told .given .1),
+      passed-held _ _ _ _ _ _ (c .before .before .judge-entry .ensures) (c .enum-told .given .1),
     )
 
 add-i : tie.Need-add-i Inv-loop μ-loop
@@ -74,11 +78,12 @@ loop-again : tie.Need-loop-again Inv-loop μ-loop
 loop-again c =
     let s = c .before .before .before .before .before .before .before .before .before .before .before in
     let l = c .before .before .before .before .before .before .before in
+    let test = c .before .before .before .before .before .before .loop-test .taken in
     let (pages, faults, count) = c .served .ensures in (
       omega arith,
       count,
       rw faults (omega (arith, absent-le (getD (s .args .trace .now) (l .loop .i) 0) (pagesOf (l .loop .walk)))),
-      rw (faults, pages) (sym (check-on _ _ _ _ _ _ (c .before .before .before .before .before .before .loop-test .taken) (s .pre .2) (sym (c .before .before .before .judge-entry .ensures) ∙ c .before .enum-told .given .1)) ∙ l .loop .inv .3),
+      rw (faults, pages) (sym (check-on _ _ _ _ _ _ test (s .pre .2) _ (c .before .before .before .judge-entry .ensures) (c .before .enum-told .given .1)) ∙ l .loop .inv .3),
     )
 
 returns-2 : tie.Need-returns-2 Inv-loop μ-loop
