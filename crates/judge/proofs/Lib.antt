@@ -1,4 +1,4 @@
 pub mod Walks
 pub mod Steps
 pub mod Accepted
-pub mod Choice
+pub mod TwoPlans

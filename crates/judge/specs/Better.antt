@@ -3,7 +3,7 @@
 use mathlib.Core.List.{List}
 use Prim.Native.Nat.{ℕ}
 use lib.Dec.{leb}
-use lib.ListN.{take}
+use lib.ListN.{length, take}
 use Rattle.paging.specs.Lists.{pick}
 use Rattle.paging.specs.Refusals.{table}
 use Rattle.paging.specs.declared.Answer.{Answer}
@@ -30,6 +30,10 @@ abbrev pub wordsOf : Verdict → ℕ → List ℕ → List ℕ → List ℕ
 wordsOf (First f) requests first second = take requests first
 wordsOf (Second g) requests first second = take requests second
 wordsOf (Neither r) requests first second = take 0 first
+
+unfoldable pub betterWords : ℕ → List ℕ → List ℕ → List ℕ → List ℕ
+unfolding betterOf
+betterWords m trace first second = wordsOf (betterOf m trace first second) (length trace) first second
 
 -- which of the two lent plans they are a part of: the first also where the verdict is a refusal
 abbrev pub lenderOf : {A : Type 0} → Verdict → A → A → A

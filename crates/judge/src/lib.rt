@@ -12,7 +12,7 @@ ghost use Rattle.paging.specs.declared.Gate.the-variants.{Open, No};
 ghost use Rattle.paging.specs.Calls.{requestLimit, frameLimit};
 ghost use Rattle.paging.specs.Plans.{mem, placeOf, judged, after, absent, check};
 ghost use Rattle.judge.specs.Check.{pagesOf, checkOf};
-ghost use Rattle.judge.specs.Better.{fewer, betterOf, wordsOf, lenderOf, verdictNumbers};
+ghost use Rattle.judge.specs.Better.{fewer, betterOf, betterWords, lenderOf, verdictNumbers};
 use paging::Answer;
 use paging::Frame;
 use paging::Gate;
@@ -174,7 +174,8 @@ pub fn better(m: u32, trace: &[u32], first: &[u32], second: &[u32]) -> Verdict
 
 // Better of two, the words: the first T words of the plan that the verdict names, as they were lent.
 pub fn better_words<'a>(m: u32, trace: &[u32], first: &'a [u32], second: &'a [u32]) -> &'a [u32]
-    ensures { λ r. ⌜ (now r ≡ wordsOf (betterOf m (now (trace .entry)) (now (first .entry)) (now (second .entry))) (length (now (trace .entry))) (now (first .entry)) (now (second .entry))) × (r .ptr ≡ lenderOf (betterOf m (now (trace .entry)) (now (first .entry)) (now (second .entry))) (first .entry .ptr) (second .entry .ptr)) ⌝ }
+    ensures words { λ r. ⌜ now r ≡ betterWords m (now (trace .entry)) (now (first .entry)) (now (second .entry)) ⌝ }
+    ensures lender { λ r. ⌜ r .ptr ≡ lenderOf (betterOf m (now (trace .entry)) (now (first .entry)) (now (second .entry))) (first .entry .ptr) (second .entry .ptr) ⌝ }
 {
     match better(m, trace, first, second) {
         Verdict::First(_) => &first[..trace.len()],

@@ -3,7 +3,8 @@
 use borrow.Author.Needs.{needs}
 use mathlib.Core.Path.{refl, sym, _∙_}
 use lib.Seq.{length-take-le}
-use Rattle.judge.proofs.Choice.{words-first, words-second}
+use Rattle.judge.specs.Better.{betterWords}
+use Rattle.judge.proofs.TwoPlans.{words-first, words-second}
 use Rattle.judge.proofs.better_words.Statement.{statement}
 use Rattle.judge.proofs.better_words.Tie as tie
 
@@ -29,12 +30,15 @@ slice-aggregate-result-3 : tie.Need-slice-aggregate-result-3
 slice-aggregate-result-3 c = search needs
 
 returns : tie.Need-returns
+unfolding betterWords
 returns c = rw (← c .before .before .before .better .ensures, c .before .enum-told .given .1) (refl, refl)
 
 returns-2 : tie.Need-returns-2
+unfolding betterWords
 returns-2 c = rw (← c .before .before .before .better .ensures, c .before .enum-told2 .given .1) (refl, refl)
 
 returns-3 : tie.Need-returns-3
+unfolding betterWords
 returns-3 c = rw (← c .before .before .before .better .ensures, c .before .enum-told3 .given .1) (refl, refl)
 
 pub better-words-spec : {M : Type 1} → statement M

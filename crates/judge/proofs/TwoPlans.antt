@@ -1,10 +1,10 @@
 -- Laws of the service Better of two: the verdict names the accepted plan with the fewest faults, and the words are that plan's.
 --
--- In order: two answers; the verdict; the words; the two plans swapped.
+-- In order: two answers; the verdict; the words; the two plans swapped; no requests.
 -- Assumes nothing.
 use mathlib.Core.Path.{_≡_, refl, ap, _∙_}
 use mathlib.Core.Bool.{Bool, true, false}
-use mathlib.Core.List.{List}
+use mathlib.Core.List.{List, []}
 use Prim.Native.Nat.{ℕ, _≤_, _<_}
 use native.Mathlib.Omega.{arith}
 use native.Mathlib.Decide.{ℕ-discrete}
@@ -12,16 +12,17 @@ use lib.Dec.{leb}
 use lib.ListN.{length, take}
 use borrow.Author.Tests.{leb-true, leb-false, le-leb, lt-leb}
 use Rattle.paging.specs.Lists.{pick}
-use Rattle.paging.specs.Calls.{gate, traceTests, lentTests}
+use Rattle.paging.specs.Plans.{check}
+use Rattle.paging.specs.Calls.{frameLimit, gate, traceTests, lentTests}
 use Rattle.paging.specs.declared.Gate.the-variants.{No}
 use Rattle.paging.specs.declared.Answer.{Answer}
 use Rattle.paging.specs.declared.Answer.the-variants.{Faults, Refused}
 use Rattle.paging.specs.declared.Refusal.{Refusal}
-use Rattle.calls.proofs.Chain.{gate-append}
+use Rattle.calls.proofs.Chain.{InOrder, gate-append}
 use Rattle.judge.specs.declared.Verdict.the-variants.{First, Second, Neither}
 use Rattle.judge.specs.Check.{checkOf}
-use Rattle.judge.specs.Better.{fewer, betterOf, wordsOf}
-use Rattle.judge.proofs.Accepted.{accepted-open, front-decides}
+use Rattle.judge.specs.Better.{fewer, betterOf, betterWords}
+use Rattle.judge.proofs.Accepted.{check-decides, accepted-open, front-decides}
 
 -- ---- two answers
 
@@ -99,8 +100,9 @@ module _ (m : ℕ) (trace first second : List ℕ) where
 
   pub words-first : (f : ℕ) → betterOf m trace first second ≡ First f
       → (length trace ≤ length first)
-      × (wordsOf (betterOf m trace first second) (length trace) first second ≡ take (length trace) first)
-      × (checkOf m trace (wordsOf (betterOf m trace first second) (length trace) first second) ≡ Faults f)
+      × (betterWords m trace first second ≡ take (length trace) first)
+      × (checkOf m trace (betterWords m trace first second) ≡ Faults f)
+  unfolding betterWords
   words-first f e =
       let a = first-named f e .0 in
       let l = accepted-open m trace first f a .1 in
@@ -108,8 +110,9 @@ module _ (m : ℕ) (trace first second : List ℕ) where
 
   pub words-second : (g : ℕ) → betterOf m trace first second ≡ Second g
       → (length trace ≤ length second)
-      × (wordsOf (betterOf m trace first second) (length trace) first second ≡ take (length trace) second)
-      × (checkOf m trace (wordsOf (betterOf m trace first second) (length trace) first second) ≡ Faults g)
+      × (betterWords m trace first second ≡ take (length trace) second)
+      × (checkOf m trace (betterWords m trace first second) ≡ Faults g)
+  unfolding betterWords
   words-second g e =
       let a = second-named g e .0 in
       let l = accepted-open m trace second g a .1 in
@@ -128,3 +131,11 @@ module _ (m : ℕ) (trace first second : List ℕ) where
   unfolding betterOf
   swap-second g e =
       let (a, h) = second-named g e in swap-back (checkOf m trace first) (checkOf m trace second) g a (λ f k. omega (arith, h f k))
+
+-- ---- no requests: no plan can be refused, so the first is named with 0 faults
+
+pub nothing-requested : (m : ℕ) (first second : List ℕ) → 1 ≤ m → m ≤ frameLimit → betterOf m [] first second ≡ First 0
+unfolding betterOf check
+nothing-requested m first second l u =
+    let o : InOrder m [] = record { one-frame = l; frames = u; requests = omega arith; pages = λ t h e. absurd (omega arith) } in
+    rw (check-decides m [] first o (omega arith), check-decides m [] second o (omega arith))
