@@ -1,4 +1,4 @@
--- Laws of a walk's pages.
+-- Laws of a walk's pages: how many frames there are, who is held in those in use, and what a store does.
 -- Assumes nothing.
 use mathlib.Core.Path.{_≡_, sym, _∙_}
 use mathlib.Core.List.{List, [], _∷_, _++_}
@@ -19,6 +19,7 @@ use Rattle.judge.specs.declared.Walk.{Walk}
 use Rattle.judge.specs.Check.{pagesOf}
 use Rattle.judge.proofs.Walk as T
 
+-- a walk has 256 frames
 pub long : (w : Walk) (vs : List Val) → Is T.the-row w vs → length (w .pages) ≡ 256
 long w vs p = sym (length-map (w .pages) (u32-field .into)) ∙ p .1 .1 .1 .1 .0 .1 .0 .1
 

@@ -95,8 +95,11 @@ impl Walk {
 
     // The walk after a request of page `p`. Where a page must go, the entry `w` is a page that is held.
     fn served(self, m: u32, p: Page, w: Page) -> Walk
-        requires { ⌜ (m ≤ frameLimit) × (self .count ≤ m) × (self .faults < requestLimit) × (mem (p .0) (pagesOf self) ≡ false → m ≤ length (pagesOf self) → mem (w .0) (pagesOf self) ≡ true) ⌝ }
-        ensures { λ r. ⌜ (pagesOf r ≡ after m (pagesOf self) (p .0) (w .0)) × (r .faults ≡ self .faults + absent (p .0) (pagesOf self)) × (r .count ≤ m) ⌝ }
+        requires sizes { ⌜ (m ≤ frameLimit) × (self .count ≤ m) × (self .faults < requestLimit) ⌝ }
+        requires goes { ⌜ (mem (p .0) (pagesOf self) ≡ false → m ≤ length (pagesOf self) → mem (w .0) (pagesOf self) ≡ true) ⌝ }
+        ensures pages { λ r. ⌜ pagesOf r ≡ after m (pagesOf self) (p .0) (w .0) ⌝ }
+        ensures faults { λ r. ⌜ r .faults ≡ self .faults + absent (p .0) (pagesOf self) ⌝ }
+        ensures count { λ r. ⌜ r .count ≤ m ⌝ }
     {
         let n = self.count;
         if self.frame_of(p).0 < n {

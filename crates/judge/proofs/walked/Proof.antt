@@ -62,9 +62,7 @@ enum-told c = search needs
 served-requires : tie.Need-served-requires Inv-loop μ-loop
 served-requires c κs =
     let s = c .before .before .before .before .before .before .before .before .before .before in (
-      s .pre .0,
-      c .before .before .before .before .before .before .loop .inv .1,
-      omega (arith, s .pre .1),
+      (s .pre .0, c .before .before .before .before .before .before .loop .inv .1, omega (arith, s .pre .1)),
       passed-held _ _ _ _ _ _ (c .before .before .judge-entry .ensures) (c .enum-told .given .1),
     )
 
@@ -79,7 +77,7 @@ loop-again c =
     let s = c .before .before .before .before .before .before .before .before .before .before .before in
     let l = c .before .before .before .before .before .before .before in
     let test = c .before .before .before .before .before .before .loop-test .taken in
-    let (pages, faults, count) = c .served .ensures in (
+    let (pages, (faults, count)) = c .served .ensures in (
       omega arith,
       count,
       rw faults (omega (arith, absent-le (getD (s .args .trace .now) (l .loop .i) 0) (pagesOf (l .loop .walk)))),

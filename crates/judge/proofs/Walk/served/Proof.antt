@@ -16,7 +16,7 @@ use Rattle.judge.proofs.Walk.served.Statement.{statement}
 use Rattle.judge.proofs.Walk.served.Tie as tie
 
 few : (s : tie.Start) → s .args .self .count ≤ frameLimit
-few s = omega (arith, s .pre .0, s .pre .1)
+few s = omega (arith, s .pre .0)
 
 miss : (c : tie.Else1) → mem (c .before .before .before .args .p .0) (pagesOf (c .before .before .before .args .self)) ≡ false
 miss c = let s = c .before .before .before in lost (s .args .self) _ (s .good .0) (few s) _ _ (c .before .before .frame-of .ensures) (c .if1 .left)
@@ -26,7 +26,7 @@ below : (c : tie.After-frame-of2) → c .frame-of2 .result .0 < c .before .befor
 below c =
     let s = c .before .before .before .before .before .before in
     let l = held-length (s .args .self) _ (s .good .0) (few s) in
-    held-below (s .args .self) _ (s .good .0) (few s) _ _ (c .frame-of2 .ensures) (s .pre .3 (miss (c .before .before .before)) (rw l (c .before .if2 .left)))
+    held-below (s .args .self) _ (s .good .0) (few s) _ _ (c .frame-of2 .ensures) (s .pre .1 (miss (c .before .before .before)) (rw l (c .before .if2 .left)))
 
 frame-of-requires : tie.Need-frame-of-requires
 frame-of-requires c κs = search needs
@@ -35,7 +35,7 @@ returns : tie.Need-returns
 returns c =
     let s = c .before .before .before in
     let h = found (s .args .self) _ (s .good .0) (few s) _ _ (c .before .before .frame-of .ensures) (c .if1 .taken) in
-    (sym (after-hit _ _ _ _ h), rw h (omega arith), s .pre .1)
+    (sym (after-hit _ _ _ _ h), (rw h (omega arith), s .pre .0 .1))
 
 add-next : tie.Need-add-next
 add-next c = search needs
@@ -58,8 +58,7 @@ returns-2 c =
     let h = miss (c .before .before) in
     let l = held-length (s .args .self) _ (s .good .0) (few s) in (
       stored-next (s .args .self) _ (s .good .0) (few s) (s .args .p .0) (omega arith) ∙ sym (after-room _ _ _ _ h (rw l (c .if2 .taken))),
-      rw h,
-      omega arith,
+      (rw h, omega arith),
     )
 
 frame-of-requires-2 : tie.Need-frame-of-requires-2
@@ -82,8 +81,7 @@ returns-3 c =
       take-set-lt _ _ _ _ (below (c .before))
           ∙ ap (λ (f : ℕ). set (pagesOf (s .args .self)) f (s .args .p .0)) (c .before .frame-of2 .ensures)
           ∙ sym (after-full _ _ _ _ h (rw l (c .before .before .if2 .left))),
-      rw h,
-      s .pre .1,
+      (rw h, s .pre .0 .1),
     )
 
 pub served-spec : {M : Type 1} → statement M
