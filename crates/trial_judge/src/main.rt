@@ -43,8 +43,8 @@ fn better<'a>(name: &[u8], m: u32, trace: &[u32], first: &'a [u32], second: &'a 
     io::write_all(1, b"\n");
 }
 
-// Document 01's cases of plans, in its order.
-fn plan_cases() {
+// Document 01's cases of plans, in its order: those that are accepted, those that are refused, and the short traces.
+fn accepted_cases() {
     let a = [5, 6, 7, 5, 8, 6, 5, 7];
     check(b"min-3", 3, &a, &[MARK, MARK, MARK, MARK, 7, MARK, MARK, 5]);
     check(b"lru-3", 3, &a, &[MARK, MARK, MARK, MARK, 6, 7, MARK, 8]);
@@ -56,6 +56,10 @@ fn plan_cases() {
     );
     check(b"min-2", 2, &a, &[MARK, MARK, 6, MARK, 7, 8, MARK, 5]);
     check(b"claim-2", 2, &a, &[MARK, MARK, 5, 6, 7, 5, 8, 6]);
+}
+
+fn refused_cases() {
+    let a = [5, 6, 7, 5, 8, 6, 5, 7];
     check(b"entry-9", 2, &a, &[MARK, MARK, 9, 6, 7, 5, 8, 6]);
     check(b"entry-mark", 2, &a, &[MARK, MARK, MARK, 6, 7, 5, 8, 6]);
     check(b"entry-requested", 2, &a, &[MARK, MARK, 7, 6, 7, 5, 8, 6]);
@@ -65,6 +69,9 @@ fn plan_cases() {
         &a,
         &[MARK, MARK, MARK, 5, MARK, MARK, MARK, MARK],
     );
+}
+
+fn short_cases() {
     check(b"nothing-dropped", 3, &[5, 6, 7], &[MARK, MARK, MARK]);
     check(b"one-page", 1, &[4, 4, 4], &[MARK, MARK, MARK]);
 }
@@ -79,18 +86,22 @@ fn word_cases() {
     check(b"largest-page", 1, &[4294967294, 0], &[MARK, 4294967294]);
 }
 
-fn limit_cases() {
+// Document 01's limits, and the order of refusals.
+fn frame_cases() {
     check(b"frames-0", 0, &[5], &[MARK]);
     check(b"frames-1", 1, &[5], &[MARK]);
     check(b"frames-256", 256, &[5], &[MARK]);
     check(b"frames-257", 257, &[5], &[MARK]);
     check(b"mark-requested", 1, &[5, MARK, MARK], &[MARK]);
     check(b"frames-before-mark", 0, &[MARK], &[MARK]);
+}
+
+fn length_cases() {
     let trace = [5u32; 8001];
     let words = [MARK; 8001];
+    let marks = [MARK; 8001];
     check(b"requests-8000", 1, &trace[..8000], &words);
     check(b"requests-8001", 1, &trace, &words);
-    let marks = [MARK; 8001];
     check(b"length-before-mark", 1, &marks, &words);
 }
 
@@ -126,16 +137,20 @@ fn large_case() {
     check_rounds(b"rounds-last-broken", &trace, &words);
 }
 
-fn better_cases() {
+// Better of two: both plans accepted, one of them, neither.
+fn both_cases() {
     let a = [5, 6, 7, 5, 8, 6, 5, 7];
     let six = [MARK, MARK, 6, MARK, 7, 8, MARK, 5];
     let eight = [MARK, MARK, 5, 6, 7, 5, 8, 6];
-    let broken = [MARK, MARK, 5, 6, 7, 5, 8, 9];
-    let sooner = [MARK, MARK, 9, 6, 7, 5, 8, 6];
-    let short = [MARK, MARK, 6, MARK, 7, 8, MARK];
-    let longer = [MARK, MARK, 6, MARK, 7, 8, MARK, 5, 1, 2, 3];
     better(b"first-fewer", 2, &a, &six, &eight);
     better(b"second-fewer", 2, &a, &eight, &six);
+    better(
+        b"longer",
+        2,
+        &a,
+        &eight,
+        &[MARK, MARK, 6, MARK, 7, 8, MARK, 5, 1, 2, 3],
+    );
     better(b"equal", 2, &[5, 6, 7], &[MARK, MARK, 5], &[MARK, MARK, 6]);
     better(
         b"equal-swapped",
@@ -144,23 +159,46 @@ fn better_cases() {
         &[MARK, MARK, 6],
         &[MARK, MARK, 5],
     );
-    better(b"longer", 2, &a, &eight, &longer);
+}
+
+fn one_cases() {
+    let a = [5, 6, 7, 5, 8, 6, 5, 7];
+    let eight = [MARK, MARK, 5, 6, 7, 5, 8, 6];
+    let broken = [MARK, MARK, 5, 6, 7, 5, 8, 9];
+    let short = [MARK, MARK, 6, MARK, 7, 8, MARK];
     better(b"first-broken", 2, &a, &broken, &eight);
     better(b"second-broken", 2, &a, &eight, &broken);
     better(b"first-short", 2, &a, &short, &eight);
     better(b"second-short", 2, &a, &eight, &short);
-    better(b"both-broken", 2, &a, &broken, &sooner);
+}
+
+fn neither_cases() {
+    let a = [5, 6, 7, 5, 8, 6, 5, 7];
+    let broken = [MARK, MARK, 5, 6, 7, 5, 8, 9];
+    let short = [MARK, MARK, 6, MARK, 7, 8, MARK];
+    better(
+        b"both-broken",
+        2,
+        &a,
+        &broken,
+        &[MARK, MARK, 9, 6, 7, 5, 8, 6],
+    );
     better(b"short-then-broken", 2, &a, &short, &broken);
     better(b"broken-then-short", 2, &a, &broken, &short);
     better(b"frames-first", 0, &a, &short, &broken);
-    better(b"mark-first", 2, &[5, MARK], &six, &short);
+    better(b"mark-first", 2, &[5, MARK], &broken, &short);
 }
 
 fn main() {
-    plan_cases();
+    accepted_cases();
+    refused_cases();
+    short_cases();
     word_cases();
-    limit_cases();
+    frame_cases();
+    length_cases();
     empty_cases();
     large_case();
-    better_cases();
+    both_cases();
+    one_cases();
+    neither_cases();
 }
