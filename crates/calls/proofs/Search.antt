@@ -1,9 +1,9 @@
 -- Laws of a search through a list from the front, for a loop that has passed some members.
 -- Assumes nothing.
-use mathlib.Core.Path.{_≡_, refl, sym, ap, _∙_}
+use mathlib.Core.Path.{_≡_}
 use mathlib.Core.Logic.{⊎-elim}
-use mathlib.Core.Bool.{Bool, true, false}
-use mathlib.Core.List.{List, [], _∷_}
+use mathlib.Core.Bool.{true, false}
+use mathlib.Core.List.{List}
 use Prim.Native.Nat.{ℕ, suc, _+_, _≤_, _<_}
 use native.Mathlib.Numerals.{add-one}
 use native.Mathlib.Omega.{arith}
@@ -11,7 +11,7 @@ use lib.Dec.{eqb}
 use lib.ListN.{length, getD, drop, drop-of-length-le}
 use lib.Seq.{drop-cons}
 use borrow.Author.Tests.{eq-eqb, ne-eqb}
-use Rattle.paging.specs.Lists.{pick, any, indexOf}
+use Rattle.paging.specs.Lists.{indexOf}
 use Rattle.paging.specs.Plans.{mem, placeOf}
 use Rattle.paging.proofs.Lists.{bool-cases, index-le, any-index, index-passes, at-any}
 

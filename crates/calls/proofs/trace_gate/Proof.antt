@@ -1,9 +1,8 @@
 -- `calls::trace_gate` meets its contract: the three tests in their order.
 -- Assumes nothing.
 use borrow.Author.Needs.{needs}
-use mathlib.Core.Path.{_≡_, sym, _∙_, ap}
+use mathlib.Core.Path.{sym, _∙_}
 use borrow.Author.Tests.{lt-ltb}
-use Rattle.paging.specs.Rules.{mark}
 use Rattle.paging.specs.Calls.{gate, traceTests}
 use Rattle.calls.proofs.Chain.{gate-marked, gate-open}
 use Rattle.calls.proofs.trace_gate.Statement.{statement}
