@@ -206,7 +206,7 @@ held-apart m trace words (suc t) = after-apart m (heldAt m trace words t) (getD 
 -- ---- words past the trace are not read
 
 check-extra-from : (m : ℕ) (ps ws extra : List ℕ) (t f : ℕ) (held : List ℕ) → length ws ≡ length ps
-  → checkFrom m t f held ps (ws ++ extra) ≡ checkFrom m t f held ps ws
+    → checkFrom m t f held ps (ws ++ extra) ≡ checkFrom m t f held ps ws
 unfolding checkFrom
 check-extra-from m [] ws extra t f held e = refl
 check-extra-from m (p ∷ ps) [] extra t f held e = absurd (omega arith)
