@@ -3,3 +3,4 @@ pub mod PlanSide
 pub mod Phases
 pub mod RuleSide
 pub mod Bound
+pub mod Answers

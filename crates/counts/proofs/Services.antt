@@ -35,6 +35,11 @@ answer-open : (g : Gate) (f x : ℕ) → through g (Faults x) ≡ Faults f → (
 answer-open Open f x e = (refl, (cc))
 answer-open (No refusal) f x e = absurd (let z : _≡_ {A = ℕ} 0 1 = cc in omega arith)
 
+-- a number that Count answers is the rule's faults
+pub count-is : (rule n : ℕ) (trace : List ℕ) (f : ℕ) → countOf rule n trace ≡ Faults f → faults (named (ruleNumbered rule)) n trace ≡ f
+unfolding countOf
+count-is rule n trace f e = answer-open (gate (ruleTests rule n trace)) f (faults (named (ruleNumbered rule)) n trace) e .1
+
 module _ (rule n : ℕ) (trace words : List ℕ) (f : ℕ) (said : planOf rule n trace words ≡ Faults f) where
   kind : Rule
   kind = named (ruleNumbered rule)
