@@ -22,6 +22,7 @@ use Rattle.paging.specs.declared.Refusal.{Refusal}
 use Rattle.paging.specs.declared.Refusal.the-variants.{LentTooShort, PlanBroken}
 use Rattle.paging.proofs.Lists.{length-snoc}
 use Rattle.paging.proofs.Held.{mem-place, mem-in}
+use Rattle.paging.proofs.PlanRule.{after-hit, after-room, after-full}
 use Rattle.bounds.proofs.Pigeonhole.{same, times, Among, Within, same-self, times-snoc, times-set, in-among}
 
 pub refused-faults : (r : Refusal) (g : ℕ) → Refused r ≡ Faults g → ⊥
@@ -29,18 +30,6 @@ refused-faults r g e = let k : _≡_ {A = ℕ} 0 1 = cc in omega arith
 
 module _ (m p w : ℕ) (held : List ℕ) where
   -- ---- one entry, w, for the request of page p in m frames
-
-  after-hit : mem p held ≡ true → after m held p w ≡ held
-  unfolding after
-  after-hit q = rw q
-
-  after-room : mem p held ≡ false → length held < m → after m held p w ≡ held ++ (p ∷ [])
-  unfolding after
-  after-room q h = rw (q, lt-ltb _ _ h)
-
-  after-full : mem p held ≡ false → m ≤ length held → after m held p w ≡ set held (placeOf w held) p
-  unfolding after
-  after-full q h = rw (q, le-ltb _ _ h)
 
   -- in a full cache an accepted entry is a held page
   judged-full : (t : ℕ) → mem p held ≡ false → m ≤ length held → judged m t held p w ≡ Open → mem w held ≡ true
@@ -114,16 +103,16 @@ module _ (m : ℕ) where
       stored i h = in-among p (set held i p) (i, omega (arith, length-set held i p), getD-set-same held i p 0 h)
 
       go : (a b : Bool) → mem p held ≡ a → ltb (length held) m ≡ b → Served p held (after m held p w) cov
-      go true b q r = rw (after-hit m p w held q) (served-hit p held cov q fits within)
+      go true b q r = rw (after-hit m held p w q) (served-hit p held cov q fits within)
       go false true q r =
-          rw (after-room m p w held q (ltb-true _ _ r))
+          rw (after-room m held p w q (ltb-true _ _ r))
           (served-fault p held (held ++ (p ∷ [])) cov q within
           (λ z. omega (arith, times-snoc z held p))
           (omega (arith, length-snoc 0 held p, ltb-true (length held) m r))
           (omega (arith, times-snoc p held p, same-self p)))
       go false false q r =
           let full : m ≤ length held = ltb-false _ _ r in
-          rw (after-full m p w held q full)
+          rw (after-full m held p w q full)
           (served-fault p held (set held (placeOf w held) p) cov q within
           (λ z. times-set z held (placeOf w held) p)
           (omega (arith, length-set held (placeOf w held) p))

@@ -10,7 +10,7 @@ use lib.ListN.{length, take, drop}
 use lib.Seq.{take-append-seam}
 use Rattle.paging.specs.Lists.{pick}
 use Rattle.paging.specs.Rules.{ruleNumbered, named}
-use Rattle.paging.specs.Walk.{outcomes, faults, plan}
+use Rattle.paging.specs.Walk.{faults, plan}
 use Rattle.paging.specs.Plans.{through, check}
 use Rattle.paging.specs.Calls.{gate, unknown, traceTests, ruleTests}
 use Rattle.paging.specs.declared.Rule.{Rule}
@@ -22,7 +22,7 @@ use Rattle.paging.proofs.Own.{own-plan-accepted}
 use Rattle.paging.proofs.PlanRule.{check-extra}
 use Rattle.paging.proofs.Calls.{none-marked}
 use Rattle.paging.proofs.Services.{written-open}
-use Rattle.paging.proofs.Writing.{plan-length, outcomes-length, laid-whole}
+use Rattle.paging.proofs.Writing.{plan-length, laid-whole}
 use Rattle.calls.proofs.Chain.{InOrder, trace-open}
 use Rattle.cache.specs.Record.{emptyCache, feedable}
 use Rattle.cache.specs.Feed.{feeding, fedPlan, fedFaults}
@@ -57,8 +57,7 @@ module _ (rule n : ℕ) (trace words : List ℕ) (f : ℕ) (said : planOf rule n
       go false e = trace-open n trace .0 e
 
   plan-long : length (plan kind n trace) ≡ length trace
-  unfolding plan
-  plan-long = plan-length (outcomes kind n 0 trace []) ∙ outcomes-length kind n 0 trace []
+  plan-long = plan-length kind n trace
 
   -- the first T words are the plan, the others are as they were lent
   pub plan-then-rest : wordsOf rule n trace words ≡ plan (named (ruleNumbered rule)) n trace ++ drop (length trace) words

@@ -14,10 +14,8 @@ use lib.ListN.{length, take}
 use lib.Seq.{length-take-le, take-all}
 use borrow.Author.Tests.{le-ltb}
 use Rattle.paging.specs.Plans.{judged, after, absent, through, checkFrom, check}
-use Rattle.paging.specs.Walk.{next, outcomes, planIn, faults, plan}
+use Rattle.paging.specs.Walk.{faults, plan}
 use Rattle.paging.specs.Calls.{gate, traceTests, lentTests}
-use Rattle.paging.specs.declared.Entry.{Entry}
-use Rattle.paging.specs.declared.Outcome.{Outcome}
 use Rattle.paging.specs.declared.Rule.{Rule}
 use Rattle.paging.specs.declared.Gate.{Gate}
 use Rattle.paging.specs.declared.Gate.the-variants.{Open, No}
@@ -26,6 +24,7 @@ use Rattle.paging.specs.declared.Answer.the-variants.{Faults, Refused}
 use Rattle.paging.specs.declared.Refusal.{Refusal}
 use Rattle.paging.specs.declared.Refusal.the-variants.{PlanBroken}
 use Rattle.paging.proofs.Own.{own-plan-accepted}
+use Rattle.paging.proofs.Writing.{plan-length}
 use Rattle.paging.proofs.PlanRule.{KeepsAt, absences, accepted-exactly, accepted-count, refused-first}
 use Rattle.calls.proofs.Chain.{InOrder, trace-open, lent-open}
 use Rattle.judge.specs.Check.{checkOf}
@@ -101,21 +100,6 @@ front-decides m trace words = elim (decLe (length trace) (length words)) [
 ]
 
 -- ---- DEMAND 2, its last sentence, of the service: each rule's own plan is accepted with the rule's count
-
-outcomes-length : (rule : Rule) (n t : ℕ) (trace : List ℕ) (es : List Entry) → length (outcomes rule n t trace es) ≡ length trace
-unfolding outcomes
-outcomes-length rule n t [] es = refl
-outcomes-length rule n t (p ∷ ps) es = ap suc (outcomes-length rule n (suc t) ps (next rule n t p ps es))
-
-words-length : (os : List Outcome) → length (planIn os) ≡ length os
-unfolding planIn
-words-length [] = refl
-words-length (o ∷ os) = ap suc (words-length os)
-
--- a plan has one word for each request
-pub plan-length : (rule : Rule) (n : ℕ) (trace : List ℕ) → length (plan rule n trace) ≡ length trace
-unfolding plan
-plan-length rule n trace = words-length (outcomes rule n 0 trace []) ∙ outcomes-length rule n 0 trace []
 
 pub own-plan-passes : (rule : Rule) (n : ℕ) (trace : List ℕ) → InOrder n trace → checkOf n trace (plan rule n trace) ≡ Faults (faults rule n trace)
 own-plan-passes rule n trace o =

@@ -12,7 +12,7 @@ use native.Mathlib.Omega.{arith}
 use native.Mathlib.Decide.{decLt}
 use lib.ListN.{length, take, drop, set, length-set, take-append-drop}
 use lib.Seq.{take-suc-set, take-all, take-nil, drop-set-lt, drop-drop, set-out, append-snoc}
-use Rattle.paging.specs.Walk.{outcomes, faultOf, wordOf, faultsIn, planIn}
+use Rattle.paging.specs.Walk.{outcomes, faultOf, wordOf, faultsIn, planIn, plan}
 use Rattle.paging.specs.Services.{laid}
 use Rattle.paging.specs.declared.Entry.{Entry}
 use Rattle.paging.specs.declared.Rule.{Rule}
@@ -21,15 +21,20 @@ use Rattle.paging.specs.declared.Outcome.the-variants.{Hit, Loaded, Drop
 
 -- ---- one word for each outcome
 
-pub plan-length : (os : List Outcome) → length (planIn os) ≡ length os
+pub words-length : (os : List Outcome) → length (planIn os) ≡ length os
 unfolding planIn
-plan-length [] = refl
-plan-length (o ∷ os) = ap suc (plan-length os)
+words-length [] = refl
+words-length (o ∷ os) = ap suc (words-length os)
 
 pub outcomes-length : (rule : Rule) (n t : ℕ) (ps : List ℕ) (es : List Entry) → length (outcomes rule n t ps es) ≡ length ps
 unfolding outcomes
 outcomes-length rule n t [] es = refl
 outcomes-length rule n t (p ∷ ps) es = ap suc (outcomes-length rule n (suc t) ps _)
+
+-- a plan has one word for each request
+pub plan-length : (rule : Rule) (n : ℕ) (trace : List ℕ) → length (plan rule n trace) ≡ length trace
+unfolding plan
+plan-length rule n trace = words-length (outcomes rule n 0 trace []) ∙ outcomes-length rule n 0 trace []
 
 -- with room for all of it the list is laid whole
 pub laid-whole : (list words : List ℕ) → length list ≤ length words → laid list words ≡ list ++ drop (length list) words
@@ -93,7 +98,7 @@ pub reading-ends : (whole : List Outcome) (words₀ words : List ℕ) (f i : ℕ
 unfolding faultsIn planIn
 reading-ends whole words₀ words f i r e =
     let size : length words ≡ length words₀ = r .same-length in
-    let past : i ≡ length (planIn whole) = e ∙ sym (plan-length whole) in (
+    let past : i ≡ length (planIn whole) = e ∙ sym (words-length whole) in (
       omega (arith, r .counted),
       sym (take-append-drop i words)
           ∙ ap₂ (λ (xs ys : List ℕ). xs ++ ys)

@@ -16,12 +16,6 @@ fn show_word(word: u32) {
     show(word);
 }
 
-fn show_words(words: &[u32]) {
-    for i in 0..words.len() {
-        show_word(words[i]);
-    }
-}
-
 fn show_answer(name: &[u8], answer: Answer) {
     let told = calls::answer_numbers(answer);
     io::write_all(1, name);
@@ -40,7 +34,16 @@ fn plan(name: &[u8], rule: u32, n: u32, trace: &[u32]) {
     let mut words = [9u32; 10];
     show_answer(name, counts::write_plan(rule, n, trace, &mut words));
     io::write_all(1, b" :");
-    show_words(&words);
+    show_word(words[0]);
+    show_word(words[1]);
+    show_word(words[2]);
+    show_word(words[3]);
+    show_word(words[4]);
+    show_word(words[5]);
+    show_word(words[6]);
+    show_word(words[7]);
+    show_word(words[8]);
+    show_word(words[9]);
     io::write_all(1, b"\n");
 }
 
