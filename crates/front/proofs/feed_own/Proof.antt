@@ -133,9 +133,9 @@ module _ {M : Type 1} (𝓤 : URA M) (H : Heap 𝓤) (A : Atoms 𝓤) (W : Given
         land ! (from ! (stop !)) (init ! 5 refl (LL.lawful F.the-type F′.the-laws 𝓤 H A W .typed r _ is .0)) $
         rewrite ! 5 (λ (us : List Val). ‵ (fat fullShare F′.mir l₄ zero (only us))) (LL.tells F.the-type F′.the-laws r (v ∷ []) is) refl $
         assigns ! (of-opd ! (load ! (from ! (fld ! refl (stop !))) (look-in ! 5 (sub ! 1 refl (whole !))))) (from ! (hop ! (look ! 11 refl) (stop !)))
-          (store-raw ! 1 refl (LL.lawful T.the-type T′.the-laws 𝓤 H A W .typed (r .next) _ (LL.owed F.the-type F′.the-laws r (v ∷ []) is .1 .0) .0)) $
+        (store-raw ! 1 refl (LL.lawful T.the-type T′.the-laws 𝓤 H A W .typed (r .next) _ (LL.owed F.the-type F′.the-laws r (v ∷ []) is .1 .0) .0)) $
         assigns ! (of-opd ! (load ! (from ! (fld ! refl (stop !))) (look-in ! 5 (sub ! 0 refl (whole !))))) (from ! (stop !))
-          (init ! 13 refl (EL.lawful R.the-type R′.the-laws 𝓤 H A W tt .typed (r .outcome) _ (LL.owed F.the-type F′.the-laws r (v ∷ []) is .0) .0)) $
+        (init ! 13 refl (EL.lawful R.the-type R′.the-laws 𝓤 H A W tt .typed (r .outcome) _ (LL.owed F.the-type F′.the-laws r (v ∷ []) is .0) .0)) $
         drop ! $ owned ! T.the-row (Is T.the-row) (LL.makes T.the-type T′.the-plain 𝓤 H A) (r .next) _ (LL.owed F.the-type F′.the-laws r (v ∷ []) is .1 .0) $ move ! (1 ∷ 0 ∷ []) $
         closes ! tt T.the-row (r .next) (cells (r .next) ∷ []) b o $
         -- [obs; the borrow; the token; _4; …; _3; …; _2; …; _1; …; _0; …; true; true]
