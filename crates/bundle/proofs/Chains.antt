@@ -45,7 +45,7 @@ failed false e = refl
 pub passes : (ts : List Test) (i : ℕ) → gate ts ≡ Open → i < length ts → getD ts i (test false LentTooShort) .when ≡ false
 passes ts i e h = failed _ (all-at (λ (t : Test). not (t .when)) (test false LentTooShort) ts (open-exactly ts .0 e) i h)
 
-met : (b : Bool) → not b ≡ false → b ≡ true
+pub met : (b : Bool) → not b ≡ false → b ≡ true
 met true e = refl
 met false e = absurd (false≢true (sym e))
 
@@ -56,6 +56,13 @@ module _ (xs ys : List Test) where
 
   pub goes-on : gate xs ≡ Open → gate ys ≡ gate (xs ++ ys)
   goes-on e = sym (gate-append xs ys ∙ ap (λ (g : Gate). andThen g (gate ys)) e)
+
+  pub first-open : gate (xs ++ ys) ≡ Open → gate xs ≡ Open
+  first-open e = go (gate xs) refl
+    where
+      go : (g : Gate) → gate xs ≡ g → gate xs ≡ Open
+      go Open q = q
+      go (No refusal) q = absurd (let f : No refusal ≡ Open = stops refusal q ∙ e in let k : _≡_ {A = ℕ} 0 1 = cc in omega arith)
 
 module _ (xs ys zs : List Test) where
   pub stops-first : (refusal : Refusal) → gate xs ≡ No refusal → No refusal ≡ gate (xs ++ ys ++ zs)
@@ -167,7 +174,7 @@ pub accepted : (file : List ℕ) (a b : ℕ) → gate (readTests file a b) ≡ O
 unfolding readTests
 accepted file a b o =
     record {
-      form = formed file (form-part (gate (formTests file)) refl);
+      form = formed file (first-open (formTests file) (valueTests file) (first-open (formTests file ++ valueTests file) (lentParts file a b) o));
       frames = passes (readTests file a b) 8 o (omega arith);
       plan-frames = passes (readTests file a b) 9 o (omega arith);
       above = passes (readTests file a b) 10 o (omega arith);
@@ -175,10 +182,6 @@ accepted file a b o =
       room = ltb-false a (requestCount file) (passes (readTests file a b) 12 o (omega arith));
       plan-room = ltb-false b (planCount file) (passes (readTests file a b) 13 o (omega arith));
     }
-  where
-    form-part : (g : Gate) → gate (formTests file) ≡ g → gate (formTests file) ≡ Open
-    form-part Open e = e
-    form-part (No refusal) e = absurd (let f : No refusal ≡ Open = judge-stops file a b refusal e ∙ o in let k : _≡_ {A = ℕ} 0 1 = cc in omega arith)
 
 module _ (file requests plan : List ℕ) where
   pub read-refused : (refusal : Refusal) → gate (readTests file (length requests) (length plan)) ≡ No refusal
