@@ -1,0 +1,300 @@
+-- Document 01, "Bundle file": "reading what it wrote gives the same values, and writing what was read gives the same bytes".
+--
+-- In order: which files are accepted; the largest file; a written file is accepted with its values; a file that was read is written again.
+-- That a file has one reading needs no law: answer and lent lists are equal to functions of the bytes and of what was lent.
+-- Assumes nothing.
+use mathlib.Core.Path.{_≡_, refl, sym, ap, ap₂, _∙_}
+use mathlib.Core.Bool.{Bool, true, false}
+use mathlib.Core.Logic.{_↔_}
+use mathlib.Core.List.{List, [], _∷_, _++_, append-nil}
+use Prim.Native.Nat.{ℕ, suc, _+_, _*_, _≤_, _<_}
+use native.Mathlib.Omega.{arith}
+use lib.Dec.{ltb}
+use lib.ListN.{length, take, drop}
+use lib.Seq.{take-at}
+use borrow.Author.Tests.{le-ltb, eq-eqb, ltb-false}
+use Rattle.paging.specs.Lists.{pick, not}
+use Rattle.paging.specs.Calls.{requestLimit, test, gate, outside, marked, traceTests}
+use Rattle.paging.specs.declared.Gate.{Gate}
+use Rattle.paging.specs.declared.Gate.the-variants.{Open, No}
+use Rattle.paging.specs.declared.Refusal.the-variants.{LentTooShort}
+use Rattle.bundle.specs.Bytes.{wordAt, wordsAt, bytesIn}
+use Rattle.bundle.specs.Reading.{requestCount, planPlace, planCount, fileEnd, requestsIn, planIn, planFits, formTests, sizeTests, valueTests, readTests, sizesOf, answerBy, readOf, requestsLeft, planLeft}
+use Rattle.bundle.specs.Writing as writing
+use Rattle.bundle.specs.Writing.{fileOf, callTests, writeTests, writeOf, roomLeft}
+use Rattle.bundle.specs.declared.Sizes.{Sizes}
+use Rattle.bundle.specs.declared.ReadAnswer.the-variants.{Bundle, Refused}
+use Rattle.bundle.specs.declared.WriteAnswer.the-variants.{Bytes}
+use Rattle.bundle.proofs.Bytes.{length-words, length-bytes, bytes-append}
+use Rattle.bundle.proofs.Chains.{passes, met, first-open, Formed, Accepted, accepted, read-done, length-file, call-requests, call-planned, write-done}
+use Rattle.bundle.proofs.Back.{Below, words-behind, words-back, bytes-back, words-append, file-words}
+
+-- ---- which files are accepted
+
+accepting : (file : List ℕ) (a b : ℕ) → Accepted file a b → gate (readTests file a b) ≡ Open
+unfolding gate readTests formTests valueTests sizeTests
+accepting file a b d =
+    let w : length file ≡ fileEnd file = d .form .whole in
+    let one : 4 ≤ length file = omega arith in
+    let two : 16 ≤ length file = omega arith in
+    let three : planPlace file + 4 ≤ length file = omega arith in
+    let four : fileEnd file ≤ length file = omega arith in
+    let five : length file ≤ fileEnd file = omega arith in
+    rw (
+      le-ltb (length file) 4 one,
+      eq-eqb (wordAt file 0) 2 (d .form .sizes),
+      le-ltb (length file) 16 two,
+      le-ltb requestLimit (requestCount file) (d .form .requests),
+      le-ltb (length file) (planPlace file + 4) three,
+      d .form .fits,
+      le-ltb (length file) (fileEnd file) four,
+      le-ltb (fileEnd file) (length file) five,
+      d .frames,
+      d .plan-frames,
+      d .above,
+      d .unmarked,
+      le-ltb a (requestCount file) (d .room),
+      le-ltb b (planCount file) (d .plan-room),
+    )
+
+-- a file is accepted exactly when it is one of document 01's bundles and there is room for both lists
+pub accepted-exactly : (file : List ℕ) (a b : ℕ) → (gate (readTests file a b) ≡ Open) ↔ Accepted file a b
+accepted-exactly file a b = (accepted file a b, accepting file a b)
+
+-- an answer with sizes comes through an open gate, and they are the file's
+pub bundle-open : (file : List ℕ) (a b : ℕ) (sizes : Sizes) → readOf file a b ≡ Bundle sizes → (gate (readTests file a b) ≡ Open) × (sizesOf file ≡ sizes)
+unfolding readOf
+bundle-open file a b sizes e = go (gate (readTests file a b)) refl e
+  where
+    go : (g : Gate) → gate (readTests file a b) ≡ g → answerBy g (sizesOf file) ≡ Bundle sizes → (gate (readTests file a b) ≡ Open) × (sizesOf file ≡ sizes)
+    go Open q e = (q, cc)
+    go (No refusal) q e = absurd (let k : _≡_ {A = ℕ} 0 1 = cc in omega arith)
+
+-- "The largest file is 64,020 bytes"
+pub no-longer-file : (file : List ℕ) (a b : ℕ) (sizes : Sizes) → readOf file a b ≡ Bundle sizes → length file ≤ 64020
+no-longer-file file a b sizes e =
+    let d : Accepted file a b = accepted file a b (bundle-open file a b sizes e .0) in
+    omega (arith, d .form .whole, d .form .requests, d .form .planned)
+
+-- ---- reading what was written
+
+heads : {a b c d p q r s : ℕ} {xs ys : List ℕ} → a ∷ b ∷ c ∷ d ∷ xs ≡ p ∷ q ∷ r ∷ s ∷ ys → (a ≡ p) × (b ≡ q) × (c ≡ r) × (d ≡ s) × (xs ≡ ys)
+heads e = ((cc), (cc), (cc), (cc), (cc))
+
+head-tail : {a p : ℕ} {xs ys : List ℕ} → a ∷ xs ≡ p ∷ ys → (a ≡ p) × (xs ≡ ys)
+head-tail e = ((cc), (cc))
+
+module _ (n m : ℕ) (trace plan : List ℕ) (o : gate (callTests n m trace (length plan)) ≡ Open) where
+  outside-n : outside n ≡ false
+  unfolding callTests
+  outside-n = passes (callTests n m trace (length plan)) 0 o (omega arith)
+
+  outside-m : outside m ≡ false
+  unfolding callTests
+  outside-m = passes (callTests n m trace (length plan)) 1 o (omega arith)
+
+  m-below : ltb n m ≡ false
+  unfolding callTests
+  m-below = passes (callTests n m trace (length plan)) 2 o (omega arith)
+
+  trace-unmarked : marked trace ≡ false
+  unfolding callTests
+  trace-unmarked = passes (callTests n m trace (length plan)) 5 o (omega arith)
+
+  plan-fits : planFits (length trace) (length plan) ≡ true
+  unfolding callTests
+  plan-fits = met _ (passes (callTests n m trace (length plan)) 6 o (omega arith))
+
+  small-n : (n < 4294967296) × (m < 4294967296)
+  small-n = go (ltb n 1) (ltb 256 n) (ltb n m) refl refl refl outside-n m-below
+    where
+      go : (a b c : Bool) → ltb n 1 ≡ a → ltb 256 n ≡ b → ltb n m ≡ c → pick a true b ≡ false → c ≡ false → (n < 4294967296) × (m < 4294967296)
+      go true b c p q r e f = absurd (let k : _≡_ {A = ℕ} 0 1 = cc in omega arith)
+      go false true c p q r e f = absurd (let k : _≡_ {A = ℕ} 0 1 = cc in omega arith)
+      go false false true p q r e f = absurd (let k : _≡_ {A = ℕ} 0 1 = cc in omega arith)
+      go false false false p q r e f = let h : n ≤ 256 = ltb-false 256 n q in let k : m ≤ n = ltb-false n m r in (omega arith, omega arith)
+
+  module _ (wt : Below 4294967296 trace) (wp : Below 4294967296 plan) where
+    front-words : wordsAt (fileOf n m trace plan) 0 (length (2 ∷ n ∷ m ∷ length trace ∷ trace)) ≡ 2 ∷ n ∷ m ∷ length trace ∷ trace
+    front-words =
+        let t : length trace ≤ 8000 = call-requests n m trace (length plan) o in
+        let small : length trace < 4294967296 = omega arith in
+        let two : 2 < 4294967296 = omega arith in
+        rw (file-words n m trace plan)
+        (words-back (2 ∷ n ∷ m ∷ length trace ∷ trace) (bytesIn (length plan ∷ plan)) (two, (small-n .0, (small-n .1, (small, wt)))))
+
+    back-words : wordsAt (fileOf n m trace plan) (16 + 4 * length trace) (length (length plan ∷ plan)) ≡ length plan ∷ plan
+    back-words =
+        let front : List ℕ = bytesIn (2 ∷ n ∷ m ∷ length trace ∷ trace) in
+        let back : List ℕ = bytesIn (length plan ∷ plan) in
+        let e : 16 + 4 * length trace ≡ length front + 0 = omega (arith, length-bytes (2 ∷ n ∷ m ∷ length trace ∷ trace)) in
+        let small : length plan < 4294967296 = omega (arith, call-requests n m trace (length plan) o, call-planned n m trace (length plan) o) in
+        ap₂ (λ (f : List ℕ) (k : ℕ). wordsAt f k (suc (length plan))) (file-words n m trace plan) e
+        ∙ words-behind front back 0 (suc (length plan))
+        ∙ ap (λ (f : List ℕ). wordsAt f 0 (suc (length plan))) (sym (append-nil back))
+        ∙ words-back (length plan ∷ plan) [] (small, wp)
+
+    -- what stands in a written file
+    front-parts : (wordAt (fileOf n m trace plan) 0 ≡ 2) × (wordAt (fileOf n m trace plan) 4 ≡ n) × (wordAt (fileOf n m trace plan) 8 ≡ m)
+        × (requestCount (fileOf n m trace plan) ≡ length trace) × (wordsAt (fileOf n m trace plan) 16 (length trace) ≡ trace)
+    unfolding wordsAt
+    front-parts = heads front-words
+
+    back-parts : (wordAt (fileOf n m trace plan) (16 + 4 * length trace) ≡ length plan) × (wordsAt (fileOf n m trace plan) (16 + 4 * length trace + 4) (length plan) ≡ plan)
+    unfolding wordsAt
+    back-parts = head-tail back-words
+
+    same-count : planCount (fileOf n m trace plan) ≡ length plan
+    same-count = ap (λ (k : ℕ). wordAt (fileOf n m trace plan) (16 + 4 * k)) (front-parts .3) ∙ back-parts .0
+
+    same-requests : requestsIn (fileOf n m trace plan) ≡ trace
+    unfolding requestsIn
+    same-requests = ap (wordsAt (fileOf n m trace plan) 16) (front-parts .3) ∙ front-parts .4
+
+    same-plan : planIn (fileOf n m trace plan) ≡ plan
+    unfolding planIn
+    same-plan = ap₂ (λ (t k : ℕ). wordsAt (fileOf n m trace plan) (16 + 4 * t + 4) k) (front-parts .3) same-count ∙ back-parts .1
+
+    written-accepted : (a b : ℕ) → length trace ≤ a → length plan ≤ b → Accepted (fileOf n m trace plan) a b
+    written-accepted a b ha hb =
+        let t : requestCount (fileOf n m trace plan) ≡ length trace = front-parts .3 in
+        let p : planCount (fileOf n m trace plan) ≡ length plan = same-count in
+        let l : length (fileOf n m trace plan) ≡ 16 + 4 * length trace + 4 + 4 * length plan = length-file n m trace plan in
+        let r : length trace ≤ requestLimit = call-requests n m trace (length plan) o in
+        let k : length plan ≤ length trace = call-planned n m trace (length plan) o in
+        record {
+          form =
+              record {
+                sizes = front-parts .0;
+                requests = omega arith;
+                fits = ap₂ planFits t p ∙ plan-fits;
+                planned = omega arith;
+                whole = omega arith;
+              };
+          frames = ap outside (front-parts .1) ∙ outside-n;
+          plan-frames = ap outside (front-parts .2) ∙ outside-m;
+          above = ap₂ ltb (front-parts .1) (front-parts .2) ∙ m-below;
+          unmarked = ap marked same-requests ∙ trace-unmarked;
+          room = omega arith;
+          plan-room = omega arith;
+        }
+
+    read-back : (requests lent : List ℕ) → length trace ≤ length requests → length plan ≤ length lent
+        → (readOf (fileOf n m trace plan) (length requests) (length lent) ≡ Bundle (record { n = n; m = m; requests = length trace; planned = length plan }))
+        × (requestsLeft (fileOf n m trace plan) requests (length lent) ≡ trace ++ drop (length trace) requests)
+        × (planLeft (fileOf n m trace plan) (length requests) lent ≡ plan ++ drop (length plan) lent)
+    unfolding requestsIn planIn
+    read-back requests lent ha hb =
+        let g = accepting (fileOf n m trace plan) (length requests) (length lent) (written-accepted (length requests) (length lent) ha hb) in
+        let d = read-done (fileOf n m trace plan) requests lent g in
+        let s : sizesOf (fileOf n m trace plan) ≡ record { n = n; m = m; requests = length trace; planned = length plan } =
+        rw (front-parts .1, front-parts .2, front-parts .3, back-parts .0)
+        in (
+          sym (d .0) ∙ ap Bundle s,
+          sym (d .1) ∙ ap₂ (λ (ws : List ℕ) (t : ℕ). ws ++ drop t requests) same-requests (front-parts .3),
+          sym (d .2) ∙ ap₂ (λ (ws : List ℕ) (t : ℕ). ws ++ drop t lent) same-plan same-count,
+        )
+
+-- an answer with bytes comes through an open gate, and they are the file's
+bytes-open : (n m k : ℕ) (trace plan : List ℕ) (room : ℕ) → writeOf n m trace plan room ≡ Bytes k
+    → (gate (writeTests n m trace plan room) ≡ Open) × (length (fileOf n m trace plan) ≡ k)
+unfolding writeOf
+bytes-open n m k trace plan room e = go (gate (writeTests n m trace plan room)) refl e
+  where
+    go : (g : Gate) → gate (writeTests n m trace plan room) ≡ g → writing.answerBy g (length (fileOf n m trace plan)) ≡ Bytes k
+        → (gate (writeTests n m trace plan room) ≡ Open) × (length (fileOf n m trace plan) ≡ k)
+    go Open q e = (q, cc)
+    go (No refusal) q e = absurd (let z : _≡_ {A = ℕ} 0 1 = cc in omega arith)
+
+-- where a writing is not refused, the call is in order and the room is large enough
+room-open : (n m : ℕ) (trace plan : List ℕ) (room : ℕ) → gate (writeTests n m trace plan room) ≡ Open
+    → (gate (callTests n m trace (length plan)) ≡ Open) × (length (fileOf n m trace plan) ≤ room)
+unfolding writeTests
+room-open n m trace plan room o = (
+  first-open (callTests n m trace (length plan)) (test (ltb room (length (fileOf n m trace plan))) LentTooShort ∷ []) o,
+  ltb-false room (length (fileOf n m trace plan)) (passes (writeTests n m trace plan room) 7 o (omega arith)),
+)
+
+-- "reading what it wrote gives the same values": the first k bytes of the room, for words of 32 bits and lists with room for both sections
+pub reading-what-was-written : (n m k : ℕ) (trace plan room file requests lent : List ℕ) → Below 4294967296 trace → Below 4294967296 plan
+    → writeOf n m trace plan (length room) ≡ Bytes k → take k (roomLeft n m trace plan room) ≡ file
+    → length trace ≤ length requests → length plan ≤ length lent
+    → (readOf file (length requests) (length lent) ≡ Bundle (record { n = n; m = m; requests = length trace; planned = length plan }))
+    × (requestsLeft file requests (length lent) ≡ trace ++ drop (length trace) requests)
+    × (planLeft file (length requests) lent ≡ plan ++ drop (length plan) lent)
+reading-what-was-written n m k trace plan room file requests lent wt wp e f ha hb =
+    let (g, l) = bytes-open n m k trace plan (length room) e in
+    let (o, h) = room-open n m trace plan (length room) g in
+    let same : file ≡ fileOf n m trace plan =
+    sym f
+    ∙ ap (take k) (sym (write-done n m trace plan room o h .1))
+    ∙ take-at (fileOf n m trace plan) (drop (length (fileOf n m trace plan)) room) k l
+    in rw same (read-back n m trace plan o wt wp requests lent ha hb)
+
+-- ---- writing what was read
+
+module _ (file : List ℕ) (a b : ℕ) (d : Accepted file a b) where
+  again-open : gate (callTests (wordAt file 4) (wordAt file 8) (requestsIn file) (length (planIn file))) ≡ Open
+  unfolding gate callTests sizeTests traceTests requestsIn planIn
+  again-open =
+      let t : length (requestsIn file) ≡ requestCount file = length-words file 16 (requestCount file) in
+      let p : length (planIn file) ≡ planCount file = length-words file (planPlace file + 4) (planCount file) in
+      let r : length (requestsIn file) ≤ requestLimit = rw t (d .form .requests) in
+      let f : planFits (length (requestsIn file)) (length (planIn file)) ≡ true = ap₂ planFits t p ∙ d .form .fits in
+      rw (d .frames, d .plan-frames, d .above, le-ltb requestLimit (length (requestsIn file)) r, d .unmarked, f)
+
+  all-words : wordAt file 0 ∷ wordAt file 4 ∷ wordAt file 8 ∷ requestCount file ∷ requestsIn file ++ (planCount file ∷ planIn file)
+      ≡ wordsAt file 0 (suc (suc (suc (suc (requestCount file)))) + suc (planCount file))
+  unfolding wordsAt requestsIn planIn
+  all-words =
+      let e : planPlace file ≡ 0 + 4 * suc (suc (suc (suc (requestCount file)))) = omega arith in
+      ap (λ (k : ℕ). wordsAt file 0 (suc (suc (suc (suc (requestCount file))))) ++ wordsAt file k (suc (planCount file))) e
+      ∙ sym (words-append file 0 (suc (suc (suc (suc (requestCount file))))) (suc (planCount file)))
+
+  same-bytes : Below 256 file → fileOf (wordAt file 4) (wordAt file 8) (requestsIn file) (planIn file) ≡ file
+  unfolding requestsIn planIn
+  same-bytes s =
+      let l : length file ≡ 4 * (suc (suc (suc (suc (requestCount file)))) + suc (planCount file)) = omega (arith, d .form .whole) in
+      file-words (wordAt file 4) (wordAt file 8) (requestsIn file) (planIn file)
+      ∙ ap₂ (λ (i j : ℕ). bytesIn (2 ∷ wordAt file 4 ∷ wordAt file 8 ∷ i ∷ requestsIn file) ++ bytesIn (j ∷ planIn file))
+      (length-words file 16 (requestCount file))
+      (length-words file (planPlace file + 4) (planCount file))
+      ∙ ap (λ (z : ℕ). bytesIn (z ∷ wordAt file 4 ∷ wordAt file 8 ∷ requestCount file ∷ requestsIn file) ++ bytesIn (planCount file ∷ planIn file)) (sym (d .form .sizes))
+      ∙ sym (bytes-append (wordAt file 0 ∷ wordAt file 4 ∷ wordAt file 8 ∷ requestCount file ∷ requestsIn file) (planCount file ∷ planIn file))
+      ∙ ap bytesIn all-words
+      ∙ bytes-back (suc (suc (suc (suc (requestCount file)))) + suc (planCount file)) file s l
+
+-- "writing what was read gives the same bytes": for every accepted file, its values written into a room that is large enough
+pub writing-what-was-read : (file requests lent room : List ℕ) (sizes : Sizes) (trace plan : List ℕ) → Below 256 file
+    → readOf file (length requests) (length lent) ≡ Bundle sizes
+    → take (sizes .requests) (requestsLeft file requests (length lent)) ≡ trace
+    → take (sizes .planned) (planLeft file (length requests) lent) ≡ plan
+    → length file ≤ length room
+    → (writeOf (sizes .n) (sizes .m) trace plan (length room) ≡ Bytes (length file))
+    × (roomLeft (sizes .n) (sizes .m) trace plan room ≡ file ++ drop (length file) room)
+unfolding requestsIn planIn
+writing-what-was-read file requests lent room sizes trace plan s e f g h =
+    let (o, z) = bundle-open file (length requests) (length lent) sizes e in
+    let d = accepted file (length requests) (length lent) o in
+    let done = read-done file requests lent o in
+    let t : trace ≡ requestsIn file =
+    sym f
+    ∙ ap (λ (y : Sizes). take (y .requests) (requestsLeft file requests (length lent))) (sym z)
+    ∙ ap (take (requestCount file)) (sym (done .1))
+    ∙ take-at (wordsAt file 16 (requestCount file)) (drop (requestCount file) requests) (requestCount file) (length-words file 16 (requestCount file))
+    in
+    let p : plan ≡ planIn file =
+    sym g
+    ∙ ap (λ (y : Sizes). take (y .planned) (planLeft file (length requests) lent)) (sym z)
+    ∙ ap (take (planCount file)) (sym (done .2))
+    ∙ take-at (wordsAt file (planPlace file + 4) (planCount file)) (drop (planCount file) lent) (planCount file) (length-words file (planPlace file + 4) (planCount file))
+    in
+    let same = same-bytes file (length requests) (length lent) d s in
+    let w =
+    write-done (wordAt file 4) (wordAt file 8) (requestsIn file) (planIn file) room (again-open file (length requests) (length lent) d)
+    (rw (ap length same) h)
+    in
+    rw (← z, t, p) (
+      sym (w .0) ∙ ap (λ (x : List ℕ). Bytes (length x)) same,
+      sym (w .1) ∙ ap (λ (x : List ℕ). x ++ drop (length x) room) same,
+    )

@@ -1,0 +1,4 @@
+pub mod Bytes
+pub mod Chains
+pub mod Back
+pub mod Laws

@@ -1,0 +1,100 @@
+-- `bundle::judge` meets its contract: the form, the values, then both lent lists.
+-- Assumes nothing.
+use borrow.Author.Needs.{needs}
+use mathlib.Core.Path.{_≡_, sym, ap, ap₂, _∙_}
+use Prim.Native.Nat.{ℕ, _+_, _*_, _≤_, _<_}
+use native.Mathlib.Omega.{arith}
+use Rattle.paging.specs.Calls.{gate}
+use Rattle.paging.specs.declared.Gate.{Gate}
+use Rattle.paging.specs.declared.Gate.the-variants.{Open, No}
+use Rattle.calls.specs.Chain.{lentGate}
+use Rattle.bundle.specs.Bytes.{wordAt}
+use Rattle.bundle.specs.Reading.{requestCount, planCount, formTests, valueTests}
+use Rattle.bundle.proofs.Chains.{Formed, formed, judge-stops, judge-goes-on}
+use Rattle.bundle.proofs.judge.Statement.{statement}
+use Rattle.bundle.proofs.judge.Tie as tie
+
+-- the file is in form
+form-open : (c : tie.After-enum-told) → gate (formTests (c .before .before .before .before .args .file .now)) ≡ Open
+form-open c = sym (c .before .before .form-gate .ensures) ∙ c .enum-told .given .1
+
+form-is : (c : tie.After-enum-told) → Formed (c .before .before .before .before .args .file .now)
+form-is c = formed (c .before .before .before .before .args .file .now) (form-open c)
+
+form-gate-requires : tie.Need-form-gate-requires
+form-gate-requires c κs = search needs
+
+enum-known-refusal : tie.Need-enum-known-refusal
+enum-known-refusal c = search needs
+
+enum-told : tie.Need-enum-told
+enum-told c = search needs
+
+whole-at-requires : tie.Need-whole-at-requires
+whole-at-requires c κs = omega (arith, form-is c .whole)
+
+cast-count : tie.Need-cast-count
+cast-count c = search needs
+
+mul-whole-at : tie.Need-mul-whole-at
+mul-whole-at c = search needs
+
+add-whole-at : tie.Need-add-whole-at
+add-whole-at c = search needs
+
+whole-at-requires-2 : tie.Need-whole-at-requires-2
+whole-at-requires-2 c κs = omega (arith, form-is (c .before) .whole, c .whole-at .ensures)
+
+cast-planned : tie.Need-cast-planned
+cast-planned c = search needs
+
+value-gate-requires : tie.Need-value-gate-requires
+value-gate-requires c κs =
+    let w = c .before in
+    (w .whole-at .ensures, omega (arith, form-is (w .before) .requests, w .whole-at .ensures), omega (arith, form-is (w .before) .whole, w .whole-at .ensures))
+
+lent-gate-requires : tie.Need-lent-gate-requires
+lent-gate-requires c κs = search needs
+
+lent-gate-requires-2 : tie.Need-lent-gate-requires-2
+lent-gate-requires-2 c κs = search needs
+
+returns : tie.Need-returns
+returns c =
+    let g = c .before .before .before in
+    let s = g .before .before in
+    judge-stops (s .args .file .now) (s .args .requests) (s .args .plan) _ (sym (g .form-gate .ensures) ∙ c .before .refusal .given .1)
+
+returns-2 : tie.Need-returns-2
+returns-2 c =
+    let v = c .before .before in
+    let w = v .before .before in
+    let o = w .before in
+    let s = o .before .before .before .before in
+    let file = s .args .file .now in
+    c .lent-gate2 .ensures
+    ∙ ap (λ (g : Gate). lentGate g (v .before .whole-at2 .result) (s .args .plan))
+    (c .before .lent-gate .ensures ∙ ap (λ (g : Gate). lentGate g (w .whole-at .result) (s .args .requests)) (v .value-gate .ensures))
+    ∙ ap₂ (λ (t p : ℕ). lentGate (lentGate (gate (valueTests file)) t (s .args .requests)) p (s .args .plan))
+    (w .whole-at .ensures)
+    (v .before .whole-at2 .ensures ∙ ap (λ (k : ℕ). wordAt file (16 + 4 * k)) (w .whole-at .ensures))
+    ∙ judge-goes-on file (s .args .requests) (s .args .plan) (form-open o)
+
+pub judge-spec : {M : Type 1} → statement M
+judge-spec =
+    tie.close
+    (tie.spec
+    form-gate-requires
+    enum-known-refusal
+    enum-told
+    whole-at-requires
+    cast-count
+    mul-whole-at
+    add-whole-at
+    whole-at-requires-2
+    cast-planned
+    value-gate-requires
+    lent-gate-requires
+    lent-gate-requires-2
+    returns
+    returns-2)
