@@ -11,7 +11,7 @@ use native.Mathlib.Numerals.{add-one}
 use native.Mathlib.Omega.{arith}
 use native.Mathlib.Decide.{decLt, ℕ-discrete}
 use lib.Dec.{eqb, ltb, leb}
-use lib.ListN.{length, getD, take, drop, replicate, length-drop, length-replicate, take-append-drop, getD-replicate}
+use lib.ListN.{length, getD, take, drop, replicate, length-drop, take-append-drop, getD-replicate}
 use lib.Seq.{length-take-le, take-append-seam, drop-append-seam}
 use borrow.Author.Tests.{ltb-true, ltb-false, leb-true, eqb-true, eqb-false, lt-ltb, le-ltb, le-leb, eq-eqb, ne-eqb, not-true}
 use Rattle.paging.specs.Lists.{pick, not, both, all}
@@ -272,3 +272,7 @@ empty-sound rule frames f h k =
           };
       blank-after = all-blank 256;
     }
+
+-- every entry of the blank record and of an empty cache is all marks
+pub every-entry-blank : (rule frames i : ℕ) → i < 256 → entryAt (emptyCache rule frames .entries) i ≡ blankEntry
+every-entry-blank rule frames i h = getD-replicate 256 i blankEntry zeroEntry h
