@@ -1,15 +1,11 @@
 -- DEMAND 3 over the answers of Count and Check: sharp, and as the owner asked for it.
 -- Assumes nothing.
-use mathlib.Core.Path.{_≡_, subst}
-use mathlib.Core.List.{List}
+use mathlib.Core.Path.{subst}
 use Prim.Native.Nat.{ℕ}
-use native.Mathlib.Omega.{arith}
 use Rattle.paging.specs.Rules.{ruleNumbered, named}
-use Rattle.paging.specs.declared.Rule.{Rule}
-use Rattle.calls.proofs.Chain.{InOrder}
 use Rattle.counts.proofs.Services.{count-is}
 use Rattle.judge.proofs.Accepted.{accepted-open}
-use Rattle.bounds.specs.Bound.{Range, Demanded, Sharp, Bound}
+use Rattle.bounds.specs.Bound.{Demanded, Sharp, Bound}
 use Rattle.bounds.specs.Answers.{OfAnswers, ForBothNumbers}
 use Rattle.bounds.proofs.Bound.{sharply-bounded-by-any-plan, bounded-by-any-plan}
 

@@ -12,7 +12,7 @@ use native.Mathlib.Decide.{decLt}
 use lib.Dec.{ltb}
 use lib.ListN.{length, set, length-set}
 use lib.Seq.{getD-set-same}
-use borrow.Author.Tests.{lt-ltb, le-ltb, ltb-true, ltb-false}
+use borrow.Author.Tests.{le-ltb, ltb-true, ltb-false}
 use Rattle.paging.specs.Lists.{pick}
 use Rattle.paging.specs.Plans.{mem, placeOf, judged, after, absent, through, checkFrom}
 use Rattle.paging.specs.declared.Gate.{Gate}

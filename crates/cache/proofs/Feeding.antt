@@ -2,37 +2,33 @@
 --
 -- In order: Feed where nothing is refused; soundness; the page dropped; the requests to come play no part; feeding a trace.
 -- Assumes nothing.
-use mathlib.Core.Path.{_≡_, refl, sym, ap, ap₂, _∙_, subst}
-use mathlib.Core.Logic.{_⊎_, inl, inr, ⊎-elim}
+use mathlib.Core.Path.{_≡_, refl, sym, ap, ap₂, _∙_}
 use mathlib.Core.Bool.{Bool, true, false}
-use mathlib.Core.List.{List, [], _∷_, _++_, map}
-use Prim.Native.Nat.{ℕ, zero, suc, _+_, _-_, _≤_, _<_}
+use mathlib.Core.List.{List, [], _∷_, map}
+use Prim.Native.Nat.{ℕ, _+_, _-_, _≤_, _<_}
 use native.Mathlib.Numerals.{add-one}
 use native.Mathlib.Omega.{arith}
-use native.Mathlib.Decide.{ℕ-discrete}
 use lib.Dec.{eqb}
-use lib.ListN.{length, take, replicate, length-append, length-replicate}
+use lib.ListN.{length, replicate, length-append, length-replicate}
 use lib.Seq.{take-append-seam}
-use borrow.Author.Tests.{eq-eqb, ne-eqb, eqb-true, eqb-false}
-use Rattle.paging.specs.Lists.{pick, not, any}
+use borrow.Author.Tests.{ne-eqb, eqb-false}
+use Rattle.paging.specs.Lists.{pick, any}
 use Rattle.paging.specs.Rules.{mark, ruleNumbered, named, drops, chosen}
-use Rattle.paging.specs.Walk.{entryAt, outcome, next, outcomes, faultOf, wordOf, faultsIn, planIn, faults, plan}
-use Rattle.paging.specs.Calls.{frameLimit, gate, marked}
+use Rattle.paging.specs.Walk.{entryAt, outcome, next, outcomes, faultsIn, planIn, faults, plan}
+use Rattle.paging.specs.Calls.{frameLimit, marked}
 use Rattle.paging.specs.declared.Entry.{Entry}
 use Rattle.paging.specs.declared.Rule.{Rule}
 use Rattle.paging.specs.declared.Rule.the-variants.{Lru, Fifo, Min, Lru2}
 use Rattle.paging.specs.declared.Outcome.{Outcome}
 use Rattle.paging.specs.declared.Outcome.the-variants as O
-use Rattle.paging.specs.declared.Gate.{Gate}
-use Rattle.paging.specs.declared.Gate.the-variants.{Open, No}
-use Rattle.paging.proofs.Lists.{false≢true, bool-cases}
+use Rattle.paging.proofs.Lists.{false≢true}
 use Rattle.paging.proofs.Frames.{next-size}
 use Rattle.cache.specs.declared.Cache.{Cache}
 use Rattle.cache.specs.declared.Reply.{Reply}
 use Rattle.cache.specs.declared.Fed.{Fed}
-use Rattle.cache.specs.Record.{blankEntry, emptyCache, heldOf, heldEntries, padded, ruleOf, feedable}
+use Rattle.cache.specs.Record.{blankEntry, emptyCache, heldOf, heldEntries, ruleOf, feedable}
 use Rattle.cache.specs.Sound.{sound}
-use Rattle.cache.specs.Feed.{served, replyOf, feedTests, fedBy, fed, feeding, replyWord, replyFault, fedPlan, fedFaults}
+use Rattle.cache.specs.Feed.{served, replyOf, fed, feeding, fedPlan, fedFaults}
 use Rattle.cache.specs.Step.{outcomesFrom}
 use Rattle.cache.proofs.Orderly.{drops-one}
 use Rattle.cache.proofs.Soundness.{Sound, sound-is, is-sound, held-length, empty-sound}

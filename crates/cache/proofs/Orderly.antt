@@ -6,19 +6,18 @@ use mathlib.Core.Path.{_≡_, refl, sym, ap, _∙_, subst}
 use mathlib.Core.Logic.{_⊎_, inl, inr, ⊎-elim}
 use mathlib.Core.Bool.{Bool, true, false}
 use mathlib.Core.List.{List, [], _∷_}
-use Prim.Native.Nat.{ℕ, zero, suc, _+_, _≤_, _<_}
+use Prim.Native.Nat.{ℕ, zero, suc, _≤_, _<_}
 use native.Mathlib.Omega.{arith}
-use native.Mathlib.Decide.{ℕ-discrete}
-use lib.Dec.{eqb, leb}
+use lib.Dec.{leb}
 use lib.ListN.{length, getD}
-use borrow.Author.Tests.{leb-true, eqb-true, eqb-false, ne-eqb}
+use borrow.Author.Tests.{leb-true, eqb-false}
 use Rattle.paging.specs.Lists.{pick, both, implies, any, all}
 use Rattle.paging.specs.Rules.{mark, once, lruDrops, fifoDrops, lru2Drops, drops, chosen}
-use Rattle.paging.specs.Walk.{holds, zeroEntry, entryAt, pages, loadedAt, renewed, next}
+use Rattle.paging.specs.Walk.{zeroEntry, entryAt, pages, loadedAt, renewed, next}
 use Rattle.paging.specs.declared.Entry.{Entry}
 use Rattle.paging.specs.declared.Rule.{Rule}
 use Rattle.paging.specs.declared.Rule.the-variants.{Lru, Fifo, Min, Lru2}
-use Rattle.paging.proofs.Lists.{false≢true, true≢false, bool-cases, both-first, both-second, implied, all-at, none-at, index-is}
+use Rattle.paging.proofs.Lists.{true≢false, bool-cases, both-first, both-second, implied, all-at, none-at, index-is}
 use Rattle.paging.proofs.Held.{In, Apart}
 use Rattle.paging.proofs.Frames.{pages-length, pages-at, Became, next-entry, next-apart}
 use Rattle.cache.specs.Sound.{moments}

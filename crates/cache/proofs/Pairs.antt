@@ -1,12 +1,12 @@
 -- A test of every two members of a list, by index.
 -- Assumes nothing.
-use mathlib.Core.Path.{_≡_, refl, sym, ap, _∙_}
-use mathlib.Core.Bool.{Bool, true, false}
+use mathlib.Core.Path.{_≡_, refl}
+use mathlib.Core.Bool.{Bool, true}
 use mathlib.Core.List.{List, [], _∷_}
 use Prim.Native.Nat.{ℕ, zero, suc, _<_}
 use native.Mathlib.Omega.{arith}
 use lib.ListN.{length, getD}
-use Rattle.paging.specs.Lists.{both, all}
+use Rattle.paging.specs.Lists.{all}
 use Rattle.paging.proofs.Lists.{both-first, both-second, both-true, all-at, at-all}
 use Rattle.cache.specs.Sound.{pairwise}
 

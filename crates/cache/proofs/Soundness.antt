@@ -2,8 +2,8 @@
 --
 -- In order: the conditions; the test implies them and they imply the test; the entries of a sound record; the empty cache is sound.
 -- Assumes nothing.
-use mathlib.Core.Path.{_≡_, refl, sym, ap, ap₂, _∙_, subst}
-use mathlib.Core.Logic.{_⊎_, inl, inr, ⊎-elim}
+use mathlib.Core.Path.{_≡_, refl, sym, ap, ap₂, _∙_}
+use mathlib.Core.Logic.{_⊎_, inl, inr}
 use mathlib.Core.Bool.{Bool, true, false}
 use mathlib.Core.List.{List, [], _∷_, _++_}
 use Prim.Native.Nat.{ℕ, zero, suc, _+_, _-_, _≤_, _<_}
@@ -11,16 +11,16 @@ use native.Mathlib.Numerals.{add-one}
 use native.Mathlib.Omega.{arith}
 use native.Mathlib.Decide.{decLt, ℕ-discrete}
 use lib.Dec.{eqb, ltb, leb}
-use lib.ListN.{length, getD, take, drop, replicate, length-drop, take-append-drop, getD-replicate}
+use lib.ListN.{length, getD, drop, replicate, length-drop, take-append-drop, getD-replicate}
 use lib.Seq.{length-take-le, take-append-seam, drop-append-seam}
-use borrow.Author.Tests.{ltb-true, ltb-false, leb-true, eqb-true, eqb-false, lt-ltb, le-ltb, le-leb, eq-eqb, ne-eqb, not-true}
+use borrow.Author.Tests.{ltb-true, ltb-false, leb-true, eqb-true, eqb-false, lt-ltb, le-ltb, le-leb, eq-eqb, ne-eqb}
 use Rattle.paging.specs.Lists.{pick, not, both, all}
 use Rattle.paging.specs.Rules.{mark}
 use Rattle.paging.specs.Walk.{zeroEntry, entryAt, pages}
 use Rattle.paging.specs.Plans.{mem}
-use Rattle.paging.specs.Calls.{frameLimit, requestLimit, outside}
+use Rattle.paging.specs.Calls.{frameLimit, outside}
 use Rattle.paging.specs.declared.Entry.{Entry}
-use Rattle.paging.proofs.Lists.{false≢true, true≢false, bool-cases, both-first, both-second, both-true, all-at, at-all}
+use Rattle.paging.proofs.Lists.{false≢true, both-first, both-second, both-true, all-at, at-all}
 use Rattle.paging.proofs.Held.{In, Apart, apart-nil, in-mem, not-in}
 use Rattle.paging.proofs.Frames.{pages-length, pages-at}
 use Rattle.cache.specs.declared.Cache.{Cache}

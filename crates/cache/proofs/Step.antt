@@ -6,15 +6,15 @@ use mathlib.Core.Path.{_≡_, refl, sym, ap, ap₂, _∙_}
 use mathlib.Core.Logic.{_⊎_, inl, inr, ⊎-elim}
 use mathlib.Core.Bool.{Bool, true, false}
 use mathlib.Core.List.{List, [], _∷_, _++_}
-use Prim.Native.Nat.{ℕ, zero, suc, _+_, _-_, _≤_, _<_}
+use Prim.Native.Nat.{ℕ, suc, _+_, _-_, _≤_, _<_}
 use native.Mathlib.Omega.{arith}
 use native.Mathlib.Decide.{ℕ-discrete}
 use lib.Dec.{eqb, leb}
 use lib.ListN.{length, take, set, replicate, length-set}
 use lib.Seq.{length-take-le, getD-take, set-append-left, set-append-seam, append-snoc}
-use borrow.Author.Tests.{eqb-true, eqb-false, eq-eqb, ne-eqb, le-leb}
+use borrow.Author.Tests.{eqb-true, eq-eqb, le-leb}
 use Rattle.paging.specs.Lists.{pick, both, implies, any, all, indexOf}
-use Rattle.paging.specs.Rules.{mark, ruleNumbered, named, once, lruDrops, fifoDrops, lru2Drops, drops, chosen}
+use Rattle.paging.specs.Rules.{mark, once, lruDrops, fifoDrops, lru2Drops, drops, chosen}
 use Rattle.paging.specs.Walk.{holds, frameOf, zeroEntry, entryAt, loadedAt, renewed, next}
 use Rattle.paging.specs.Calls.{frameLimit}
 use Rattle.paging.specs.declared.Entry.{Entry}
@@ -30,7 +30,7 @@ use Rattle.paging.specs.declared.Outcome.{Outcome}
 use Rattle.paging.specs.declared.Outcome.the-variants.{Hit, Loaded, Dropped}
 use Rattle.cache.specs.Record.{blankEntry, heldOf, heldEntries, padded, holding, ruleOf, feedable}
 use Rattle.cache.specs.Feed.{served}
-use Rattle.cache.proofs.Orderly.{InTime, Orderly, chosen-is, next-orderly}
+use Rattle.cache.proofs.Orderly.{Orderly, chosen-is, next-orderly}
 use Rattle.cache.proofs.Soundness.{Sound, held-length, entries-padded, holding-sound}
 use Rattle.cache.specs.Step.{foundIn, keyOf, placed}
 

@@ -1,10 +1,9 @@
 -- Document 01, the service Feed: one step of the walk on the record's entries as they stand.
 -- Assumes nothing.
 use mathlib.Core.List.{List, [], _∷_}
-use mathlib.Core.Bool.{Bool, true, false}
 use Prim.Native.Nat.{ℕ, _+_}
 use lib.Dec.{eqb}
-use Rattle.paging.specs.Lists.{pick, not}
+use Rattle.paging.specs.Lists.{not}
 use Rattle.paging.specs.Rules.{mark}
 use Rattle.paging.specs.Walk.{outcome, next}
 use Rattle.paging.specs.Calls.{requestLimit, Test, test, gate}

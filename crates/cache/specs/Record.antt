@@ -3,10 +3,10 @@
 -- A record is a state of the walk with its list of entries padded to 256 by blank ones.
 -- Assumes nothing.
 use mathlib.Core.List.{List, [], _∷_, _++_}
-use mathlib.Core.Bool.{Bool, true, false}
+use mathlib.Core.Bool.{Bool, true}
 use Prim.Native.Nat.{ℕ, _+_, _-_}
 use lib.Dec.{eqb}
-use lib.ListN.{length, take, drop, replicate}
+use lib.ListN.{length, take, replicate}
 use Rattle.paging.specs.Lists.{pick, not}
 use Rattle.paging.specs.Rules.{mark, ruleNumbered, named}
 use Rattle.paging.specs.Calls.{frameLimit, Test, test, gate, outside, traceTests}

@@ -1,11 +1,11 @@
 -- Document 01, when a record is sound: its paragraph, condition by condition.
 -- Assumes nothing.
-use mathlib.Core.List.{List, [], _∷_, _++_}
-use mathlib.Core.Bool.{Bool, true, false}
+use mathlib.Core.List.{List, [], _∷_}
+use mathlib.Core.Bool.{Bool, true}
 use Prim.Native.Nat.{ℕ}
 use lib.Dec.{eqb, ltb, leb}
 use lib.ListN.{drop}
-use Rattle.paging.specs.Lists.{pick, not, both, any, all}
+use Rattle.paging.specs.Lists.{pick, not, both, all}
 use Rattle.paging.specs.Rules.{mark, once}
 use Rattle.paging.specs.Plans.{mem}
 use Rattle.paging.specs.Calls.{requestLimit, outside}

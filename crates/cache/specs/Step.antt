@@ -1,7 +1,6 @@
 -- Devices of the inner step: what the private functions answer. Document 01's words are in Record, Sound and Feed; proofs/Step.antt ties these to them.
 -- Assumes nothing.
 use mathlib.Core.List.{List}
-use mathlib.Core.Bool.{Bool, true, false}
 use Prim.Native.Nat.{ℕ, _+_}
 use lib.Dec.{eqb}
 use lib.ListN.{set}

@@ -2,23 +2,20 @@
 -- Assumes nothing.
 use mathlib.Core.Path.{_≡_, refl, sym, ap, _∙_}
 use mathlib.Core.Bool.{Bool, true, false}
-use mathlib.Core.List.{List, [], _∷_, _++_}
+use mathlib.Core.List.{List}
 use Prim.Native.Nat.{ℕ, _≤_}
-use native.Mathlib.Omega.{arith}
 use lib.Dec.{eqb}
 use lib.ListN.{length}
 use borrow.Author.Tests.{ne-eqb}
 use Rattle.paging.specs.Lists.{pick, not}
 use Rattle.paging.specs.Rules.{ruleNumbered, named}
-use Rattle.paging.specs.Walk.{faults, plan}
-use Rattle.paging.specs.Calls.{gate, unknown, traceTests, ruleTests, lentTests}
-use Rattle.paging.specs.Services.{answered, laid, written}
+use Rattle.paging.specs.Calls.{gate, unknown, traceTests, ruleTests}
+use Rattle.paging.specs.Services.{answered, written}
 use Rattle.paging.specs.declared.Rule.the-variants.{Lru, Fifo, Min, Lru2}
 use Rattle.paging.specs.declared.Numbered.the-variants.{Is, Unknown}
 use Rattle.paging.specs.declared.Answer.the-variants.{Refused}
 use Rattle.paging.specs.declared.Refusal.{Refusal}
 use Rattle.paging.specs.declared.Refusal.the-variants.{UnknownRule}
-use Rattle.paging.specs.declared.Gate.{Gate}
 use Rattle.paging.specs.declared.Gate.the-variants.{Open, No}
 use Rattle.paging.proofs.Services.{answered-open, answered-no, written-open, written-no, answered-same, written-same}
 use Rattle.calls.proofs.Chain.{lent-open}

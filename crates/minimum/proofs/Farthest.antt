@@ -3,25 +3,23 @@
 use mathlib.Core.Path.{_≡_, refl, sym, ap, ap₂, _∙_}
 use mathlib.Core.Logic.{_⊎_, inl, inr, ⊎-elim}
 use mathlib.Core.Bool.{Bool, true, false}
-use mathlib.Core.List.{List, [], _∷_, _++_, map}
-use Prim.Native.Nat.{ℕ, zero, suc, _+_, _≤_, _<_}
+use mathlib.Core.List.{List, [], _∷_}
+use Prim.Native.Nat.{ℕ, suc, _+_, _≤_, _<_}
 use native.Mathlib.Omega.{arith}
-use lib.Dec.{eqb, ltb, leb}
-use lib.ListN.{length, getD, set}
+use lib.Dec.{eqb, leb}
+use lib.ListN.{length, getD}
 use borrow.Author.Tests.{lt-ltb, le-ltb, leb-true, le-leb, eqb-true, eqb-false, ne-eqb}
-use Rattle.paging.specs.Lists.{pick, both, implies, all, indexOf}
+use Rattle.paging.specs.Lists.{both, implies, all}
 use Rattle.paging.specs.Rules.{nextOf, never, minDrops, drops, chosen}
-use Rattle.paging.specs.Walk.{holds, frameOf, entryAt, pages, loadedAt, renewed, outcome, next, outcomes}
-use Rattle.paging.specs.Plans.{mem, placeOf}
-use Rattle.paging.specs.declared.Page.{Page}
+use Rattle.paging.specs.Walk.{pages, outcome, next, outcomes}
+use Rattle.paging.specs.Plans.{placeOf}
 use Rattle.paging.specs.declared.Entry.{Entry}
 use Rattle.paging.specs.declared.Rule.the-variants.{Min}
 use Rattle.paging.specs.declared.Outcome.{Outcome}
-use Rattle.paging.specs.declared.Outcome.the-variants.{Hit, Loaded, Dropped}
 use Rattle.paging.proofs.Lists.{bool-cases, both-first, both-second, both-true, implied, implies-true, all-at, at-all, all-map, index-map, index-same, index-is, index-passes}
 use Rattle.paging.proofs.Choice.{next-le, never-next}
 use Rattle.paging.proofs.Held.{Apart}
-use Rattle.paging.proofs.Frames.{pages-length, pages-at, mem-pages, Ways, ways, outcome-hit, outcome-room, outcome-full, pages-hit, pages-room, pages-full}
+use Rattle.paging.proofs.Frames.{pages-length, pages-at, mem-pages, Ways, ways, pages-hit, pages-room, pages-full}
 use Rattle.minimum.specs.Farthest.{goesFirst, farthest, minOutcome, minNext, minOutcomes}
 
 -- ---- the walk

@@ -7,13 +7,13 @@ use native.Mathlib.Numerals.{add-one}
 use native.Mathlib.Omega.{arith}
 use lib.ListN.{length, getD, set, drop, drop-of-length-le}
 use lib.Seq.{drop-cons, set-out}
-use Rattle.paging.specs.Walk.{outcomes, faultOf, wordOf, faultsIn, planIn, faults, plan}
+use Rattle.paging.specs.Walk.{outcomes, faultOf, wordOf, faults, plan}
 use Rattle.paging.specs.Services.{laid}
 use Rattle.paging.specs.declared.Rule.the-variants.{Min}
 use Rattle.paging.specs.declared.Outcome.{Outcome}
 use Rattle.paging.proofs.Writing.{outcomes-length, Reading, reading-starts, reading-steps, reading-ends}
 use Rattle.minimum.specs.declared.Kept.{Kept}
-use Rattle.minimum.specs.Farthest.{minOutcome, minNext, minOutcomes}
+use Rattle.minimum.specs.Farthest.{minOutcomes}
 use Rattle.minimum.specs.Turns.{pagesOf, noneKept, Fair, Stepped}
 use Rattle.minimum.proofs.Farthest.{min-walks}
 

@@ -1,14 +1,14 @@
 -- One request of MIN: what the code writes is one step of its walk, and every page stands beside its turn again.
 -- Assumes nothing.
-use mathlib.Core.Path.{_≡_, refl, sym, ap, ap₂, _∙_, subst}
+use mathlib.Core.Path.{_≡_, sym, ap, _∙_}
 use mathlib.Core.Logic.{_⊎_, inl, inr, ⊎-elim}
-use mathlib.Core.Bool.{Bool, true, false}
-use mathlib.Core.List.{List, [], _∷_, _++_}
-use Prim.Native.Nat.{ℕ, zero, suc, _+_, _≤_, _<_}
+use mathlib.Core.Bool.{true, false}
+use mathlib.Core.List.{List, _∷_}
+use Prim.Native.Nat.{ℕ, _+_, _≤_, _<_}
 use native.Mathlib.Numerals.{add-one}
 use native.Mathlib.Omega.{arith}
 use native.Mathlib.Decide.{ℕ-discrete}
-use lib.ListN.{length, getD, take, drop, set, length-set}
+use lib.ListN.{length, getD, drop, set, length-set}
 use lib.Seq.{drop-cons, length-take-le, getD-take, getD-set-same, getD-set-other, take-set-lt, take-suc-set, set-getD}
 use borrow.Author.Tests.{lt-ltb, le-ltb}
 use Rattle.paging.specs.Rules.{nextOf}

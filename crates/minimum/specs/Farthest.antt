@@ -1,7 +1,7 @@
 -- MIN over the held pages alone: its choice reads no moments, so its walk needs none. proofs/Farthest.antt says that this is the walk of rule 3.
 -- Assumes nothing.
 use mathlib.Core.List.{List, [], _∷_, _++_}
-use mathlib.Core.Bool.{Bool, true, false}
+use mathlib.Core.Bool.{Bool}
 use Prim.Native.Nat.{ℕ}
 use lib.Dec.{ltb, leb}
 use lib.ListN.{length, getD, set}

@@ -1,10 +1,10 @@
 -- Laws of the table of refusals, the rules' numbers and the chain of tests.
 -- Assumes nothing.
-use mathlib.Core.Path.{_≡_, refl, sym, _∙_}
+use mathlib.Core.Path.{_≡_, refl}
 use mathlib.Core.Logic.{_⊎_, inl, inr, _↔_}
 use mathlib.Core.Bool.{Bool, true, false}
 use mathlib.Core.List.{List, [], _∷_, _++_, map}
-use Prim.Native.Nat.{ℕ, _≤_, _<_}
+use Prim.Native.Nat.{ℕ, _<_}
 use native.Mathlib.Omega.{arith}
 use lib.Dec.{eqb}
 use lib.ListN.{length, getD}
@@ -14,13 +14,11 @@ use Rattle.paging.specs.Refusals.{table}
 use Rattle.paging.specs.Rules.{mark, ruleNumbered}
 use Rattle.paging.specs.Calls.{Test, gate, marked, firstMark}
 use Rattle.paging.specs.declared.Rule.the-variants.{Lru, Fifo, Min, Lru2}
-use Rattle.paging.specs.declared.Numbered.{Numbered}
 use Rattle.paging.specs.declared.Numbered.the-variants.{Is, Unknown}
-use Rattle.paging.specs.declared.Gate.{Gate}
 use Rattle.paging.specs.declared.Gate.the-variants.{Open, No}
 use Rattle.paging.specs.declared.Refusal.{Refusal}
 use Rattle.paging.specs.declared.Refusal.the-variants.{UnknownRule, FramesOutside, TraceTooLong, MarkRequested, UnsoundRecord, LentTooShort, PlanBroken, ClockFull, FileCut, CountNotAllowed, BytesLeftOver, PlanAboveCache}
-use Rattle.paging.proofs.Lists.{false≢true, true≢false, any-index, index-passes, index-first, none-at, at-none}
+use Rattle.paging.proofs.Lists.{false≢true, any-index, index-passes, index-first, none-at, at-none}
 
 -- ---- the table
 

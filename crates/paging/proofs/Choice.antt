@@ -1,16 +1,16 @@
 -- Each rule has an entry to drop: wherever something is held, some held entry fits the rule's description, so that the frame chosen is in use.
 -- Assumes nothing.
-use mathlib.Core.Path.{_≡_, refl, sym, ap, _∙_}
-use mathlib.Core.Logic.{_⊎_, inl, inr, ⊎-elim}
+use mathlib.Core.Path.{_≡_, refl}
+use mathlib.Core.Logic.{_⊎_, ⊎-elim}
 use mathlib.Core.Bool.{Bool, true, false}
-use mathlib.Core.List.{List, [], _∷_}
-use Prim.Native.Nat.{ℕ, zero, suc, _-_, _≤_, _<_}
+use mathlib.Core.List.{List}
+use Prim.Native.Nat.{ℕ, _-_, _≤_, _<_}
 use native.Mathlib.Omega.{arith}
 use lib.Dec.{eqb, leb}
-use lib.ListN.{length, getD}
-use borrow.Author.Tests.{le-leb, eqb-true, eqb-false}
-use Rattle.paging.specs.Lists.{pick, both, implies, any, all, indexOf}
-use Rattle.paging.specs.Rules.{mark, nextOf, never, once, lruDrops, fifoDrops, minDrops, lru2Drops, drops, chosen}
+use lib.ListN.{length}
+use borrow.Author.Tests.{le-leb, eqb-true}
+use Rattle.paging.specs.Lists.{pick, both, implies, any, all}
+use Rattle.paging.specs.Rules.{nextOf, never, once, lruDrops, fifoDrops, minDrops, lru2Drops, drops, chosen}
 use Rattle.paging.specs.Walk.{zeroEntry, entryAt}
 use Rattle.paging.specs.declared.Entry.{Entry}
 use Rattle.paging.specs.declared.Rule.{Rule}

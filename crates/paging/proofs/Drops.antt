@@ -5,15 +5,15 @@
 use mathlib.Core.Path.{_≡_, refl, sym, ap, _∙_, subst}
 use mathlib.Core.Logic.{_⊎_, inl, inr, ⊎-elim}
 use mathlib.Core.Bool.{Bool, true, false}
-use mathlib.Core.List.{List, [], _∷_, _++_, map}
-use Prim.Native.Nat.{ℕ, zero, suc, _+_, _-_, _≤_, _<_}
+use mathlib.Core.List.{List, []}
+use Prim.Native.Nat.{ℕ, suc, _+_, _-_, _≤_, _<_}
 use native.Mathlib.Omega.{arith}
-use native.Mathlib.Decide.{decLe, decLt, ℕ-discrete}
+use native.Mathlib.Decide.{decLt, ℕ-discrete}
 use lib.Dec.{eqb, leb}
 use lib.ListN.{length, getD, drop, length-drop}
 use lib.Seq.{getD-drop}
 use borrow.Author.Tests.{leb-true, eqb-true, eqb-false, eq-eqb}
-use Rattle.paging.specs.Lists.{pick, both, implies, any, all, indexOf}
+use Rattle.paging.specs.Lists.{pick, both, implies, any, all}
 use Rattle.paging.specs.Rules.{mark, nextOf, never, once, lruDrops, fifoDrops, minDrops, lru2Drops, drops, chosen}
 use Rattle.paging.specs.Walk.{zeroEntry, entryAt, pages, outcomes, entriesAt}
 use Rattle.paging.specs.declared.Page.{Page}
@@ -21,7 +21,7 @@ use Rattle.paging.specs.declared.Entry.{Entry}
 use Rattle.paging.specs.declared.Rule.{Rule}
 use Rattle.paging.specs.declared.Rule.the-variants.{Lru, Fifo, Min, Lru2}
 use Rattle.paging.specs.declared.Outcome.the-variants.{Hit, Dropped}
-use Rattle.paging.proofs.Lists.{false≢true, true≢false, bool-cases, both-first, both-second, implied, all-at, none-at, index-passes, index-first}
+use Rattle.paging.proofs.Lists.{true≢false, bool-cases, both-first, both-second, implied, all-at, none-at, index-passes, index-first}
 use Rattle.paging.proofs.Choice.{next-le, never-next, chosen-below, chosen-drops}
 use Rattle.paging.proofs.Held.{In}
 use Rattle.paging.proofs.Frames.{pages-length, pages-at, dropped-full, outcome-at}

@@ -5,14 +5,13 @@
 use mathlib.Core.Path.{_≡_, refl, sym, ap, _∙_, subst}
 use mathlib.Core.Logic.{_⊎_, inl, inr, ⊎-elim, _↔_}
 use mathlib.Core.Bool.{Bool, true, false}
-use mathlib.Core.List.{List, [], _∷_, _++_, map}
+use mathlib.Core.List.{List, [], _∷_, _++_}
 use Prim.Native.Nat.{ℕ, zero, suc, _+_, _≤_, _<_}
 use native.Mathlib.Omega.{arith}
 use lib.Dec.{eqb, ltb}
 use lib.ListN.{length, getD, set, drop, length-set, length-map}
 use lib.Seq.{map-set-same, drop-cons}
-use borrow.Author.Tests.{eqb-true, eq-eqb, lt-ltb, le-ltb, ltb-true, ltb-false}
-use Rattle.paging.specs.Lists.{pick, any, indexOf}
+use borrow.Author.Tests.{lt-ltb, le-ltb, ltb-true, ltb-false}
 use Rattle.paging.specs.Rules.{chosen}
 use Rattle.paging.specs.Walk.{holds, frameOf, zeroEntry, entryAt, pages, loadedAt, renewed, outcome, next, outcomes, entriesAt}
 use Rattle.paging.specs.Plans.{mem, placeOf}
@@ -21,9 +20,9 @@ use Rattle.paging.specs.declared.Entry.{Entry}
 use Rattle.paging.specs.declared.Rule.{Rule}
 use Rattle.paging.specs.declared.Outcome.{Outcome}
 use Rattle.paging.specs.declared.Outcome.the-variants.{Hit, Loaded, Dropped}
-use Rattle.paging.proofs.Lists.{false≢true, any-map, index-map, getD-map, map-snoc, map-set, length-snoc, snoc-cases, set-cases}
+use Rattle.paging.proofs.Lists.{any-map, index-map, getD-map, map-snoc, map-set, length-snoc, snoc-cases, set-cases}
 use Rattle.paging.proofs.Choice.{chosen-below}
-use Rattle.paging.proofs.Held.{In, Apart, mem-place, mem-in, in-mem, absent-in, apart-nil, apart-snoc, apart-set, set-in}
+use Rattle.paging.proofs.Held.{In, Apart, mem-place, absent-in, apart-nil, apart-snoc, apart-set, set-in}
 
 -- ---- entries and their pages
 

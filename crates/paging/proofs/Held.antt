@@ -3,17 +3,17 @@
 -- Assumes nothing.
 use mathlib.Core.Path.{_≡_, refl, sym, ap, _∙_}
 use mathlib.Core.Logic.{_⊎_, inl, inr, ⊎-elim, _↔_}
-use mathlib.Core.Bool.{Bool, true, false}
-use mathlib.Core.List.{List, [], _∷_, _++_, map}
-use Prim.Native.Nat.{ℕ, zero, suc, _≤_, _<_}
+use mathlib.Core.Bool.{true, false}
+use mathlib.Core.List.{List, [], _∷_, _++_}
+use Prim.Native.Nat.{ℕ, _≤_, _<_}
 use native.Mathlib.Omega.{arith}
 use lib.Dec.{eqb}
 use lib.ListN.{length, getD, set, length-set}
 use lib.Seq.{getD-set-same, getD-set-other, getD-append-seam}
 use borrow.Author.Tests.{eqb-true, eq-eqb}
-use Rattle.paging.specs.Lists.{pick, any, indexOf}
+use Rattle.paging.specs.Lists.{indexOf}
 use Rattle.paging.specs.Plans.{mem, placeOf}
-use Rattle.paging.proofs.Lists.{false≢true, bool-cases, any-index, index-passes, index-is, at-any, none-at, snoc-cases, set-cases, length-snoc, getD-snoc-old}
+use Rattle.paging.proofs.Lists.{false≢true, bool-cases, any-index, index-passes, index-is, at-any, snoc-cases, set-cases, length-snoc, getD-snoc-old}
 
 -- page p stands in some frame of the list
 abbrev pub In : ℕ → List ℕ → Type 0

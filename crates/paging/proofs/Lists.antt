@@ -10,9 +10,9 @@ use Prim.Native.Nat.{ℕ, zero, suc, _+_, _≤_, _<_}
 use native.Mathlib.Omega.{arith}
 use native.Mathlib.Decide.{decLe, decLt, ℕ-discrete}
 use native.Mathlib.Nat.{le-of-suc-le-suc}
-use lib.ListN.{length, getD, set, take, drop, length-append, length-set}
+use lib.ListN.{length, getD, set, length-append, length-set}
 use lib.Seq.{getD-set-same, getD-set-other, getD-append-seam}
-use Rattle.paging.specs.Lists.{pick, not, both, implies, any, all, indexOf}
+use Rattle.paging.specs.Lists.{pick, both, implies, any, all, indexOf}
 
 -- ---- truth values
 

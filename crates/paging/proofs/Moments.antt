@@ -4,19 +4,18 @@
 -- request before `last` since it was loaded, or the mark." For any rule.
 -- Assumes nothing.
 use mathlib.Core.Path.{_≡_, refl, sym, ap, _∙_, subst}
-use mathlib.Core.Logic.{_⊎_, inl, inr, ⊎-elim}
-use mathlib.Core.Bool.{Bool, true, false}
-use mathlib.Core.List.{List, [], _∷_, _++_, map}
+use mathlib.Core.Logic.{_⊎_, inl, inr}
+use mathlib.Core.Bool.{true, false}
+use mathlib.Core.List.{List}
 use Prim.Native.Nat.{ℕ, zero, suc, _≤_, _<_}
 use native.Mathlib.Omega.{arith}
 use native.Mathlib.Decide.{decLe, decLt, ℕ-discrete}
 use lib.ListN.{length, getD, drop}
 use Rattle.paging.specs.Rules.{mark}
-use Rattle.paging.specs.Walk.{holds, frameOf, entryAt, pages, loadedAt, renewed, next, entriesAt}
+use Rattle.paging.specs.Walk.{holds, entryAt, loadedAt, renewed, next, entriesAt}
 use Rattle.paging.specs.declared.Entry.{Entry}
 use Rattle.paging.specs.declared.Rule.{Rule}
 use Rattle.paging.proofs.Lists.{true≢false}
-use Rattle.paging.proofs.Held.{Apart}
 use Rattle.paging.proofs.Frames.{Became, next-entry, held-differ}
 
 -- ---- words

@@ -2,27 +2,24 @@
 --
 -- The two walks go side by side: what the checker holds is, frame by frame, the pages that the rule holds.
 -- Assumes nothing.
-use mathlib.Core.Path.{_≡_, refl, sym, ap, _∙_}
-use mathlib.Core.Logic.{_⊎_, inl, inr, ⊎-elim}
-use mathlib.Core.Bool.{Bool, true, false}
-use mathlib.Core.List.{List, [], _∷_, _++_}
-use Prim.Native.Nat.{ℕ, zero, suc, _+_, _≤_, _<_}
+use mathlib.Core.Path.{_≡_, sym, ap, _∙_}
+use mathlib.Core.Logic.{inl, inr}
+use mathlib.Core.Bool.{true, false}
+use mathlib.Core.List.{List, [], _∷_}
+use Prim.Native.Nat.{ℕ, suc, _+_, _≤_, _<_}
 use native.Mathlib.Omega.{arith}
-use lib.Dec.{eqb}
-use lib.ListN.{length, getD, set}
-use borrow.Author.Tests.{eq-eqb, lt-ltb, le-ltb}
-use Rattle.paging.specs.Lists.{pick}
-use Rattle.paging.specs.Rules.{mark, chosen}
+use lib.ListN.{length}
+use borrow.Author.Tests.{lt-ltb, le-ltb}
+use Rattle.paging.specs.Rules.{chosen}
 use Rattle.paging.specs.Walk.{holds, entryAt, pages, outcome, next, outcomes, faultOf, wordOf, faultsIn, planIn, faults, plan}
-use Rattle.paging.specs.Plans.{mem, placeOf, judged, after, absent, through, checkFrom, check}
+use Rattle.paging.specs.Plans.{mem, placeOf, judged, after, absent, checkFrom, check}
 use Rattle.paging.specs.declared.Entry.{Entry}
 use Rattle.paging.specs.declared.Rule.{Rule}
-use Rattle.paging.specs.declared.Outcome.{Outcome}
 use Rattle.paging.specs.declared.Outcome.the-variants.{Hit, Loaded, Dropped}
-use Rattle.paging.specs.declared.Gate.the-variants.{Open, No}
-use Rattle.paging.specs.declared.Answer.the-variants.{Faults, Refused}
+use Rattle.paging.specs.declared.Gate.the-variants.{Open}
+use Rattle.paging.specs.declared.Answer.the-variants.{Faults}
 use Rattle.paging.proofs.Choice.{chosen-below}
-use Rattle.paging.proofs.Held.{In, Apart, in-mem, place-is, apart-nil}
+use Rattle.paging.proofs.Held.{Apart, in-mem, place-is, apart-nil}
 use Rattle.paging.proofs.Frames.{pages-length, pages-at, mem-pages, Ways, ways, outcome-hit, outcome-room, outcome-full, pages-hit, pages-room, pages-full, next-apart}
 
 -- ---- one request

@@ -4,7 +4,7 @@
 -- In order: the three sentences; the check against them; the laws; what is held after a request.
 -- Assumes nothing.
 use mathlib.Core.Path.{_≡_, refl, sym, ap, _∙_, subst}
-use mathlib.Core.Logic.{_⊎_, inl, inr, ⊎-elim, _↔_}
+use mathlib.Core.Logic.{_⊎_, inl, inr, _↔_}
 use mathlib.Core.Bool.{Bool, true, false}
 use mathlib.Core.List.{List, [], _∷_, _++_}
 use Prim.Native.Nat.{ℕ, zero, suc, _+_, _≤_, _<_}
@@ -13,8 +13,7 @@ use native.Mathlib.Decide.{ℕ-discrete}
 use lib.Dec.{eqb, ltb}
 use lib.ListN.{length, getD, set, drop, drop-of-length-le}
 use lib.Seq.{drop-cons}
-use borrow.Author.Tests.{eq-eqb, ne-eqb, eqb-true, eqb-false, lt-ltb, le-ltb, ltb-true, ltb-false}
-use Rattle.paging.specs.Lists.{pick}
+use borrow.Author.Tests.{eqb-true, eqb-false, lt-ltb, le-ltb, ltb-true, ltb-false}
 use Rattle.paging.specs.Rules.{mark}
 use Rattle.paging.specs.Plans.{mem, placeOf, judged, after, absent, through, checkFrom, check, heldAt}
 use Rattle.paging.specs.declared.Gate.{Gate}
@@ -23,7 +22,6 @@ use Rattle.paging.specs.declared.Answer.{Answer}
 use Rattle.paging.specs.declared.Answer.the-variants.{Faults, Refused}
 use Rattle.paging.specs.declared.Refusal.{Refusal}
 use Rattle.paging.specs.declared.Refusal.the-variants.{PlanBroken}
-use Rattle.paging.proofs.Lists.{false≢true, bool-cases}
 use Rattle.paging.proofs.Held.{In, Apart, in-mem, mem-in, not-in, absent-in, mem-place, apart-nil, apart-snoc, apart-set, snoc-in, set-in}
 
 -- ---- the three sentences

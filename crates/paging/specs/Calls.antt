@@ -1,7 +1,7 @@
 -- Document 01, the order of refusals in a call: 1, 2, 3, 4, 6, 7. A service appends its own tests to this chain.
 -- Each test stands beside the refusal that it gives; the first that is true decides.
 -- Assumes nothing.
-use mathlib.Core.List.{List, [], _∷_, _++_}
+use mathlib.Core.List.{List, [], _∷_}
 use mathlib.Core.Bool.{Bool, true, false}
 use Prim.Native.Nat.{ℕ}
 use lib.Dec.{eqb, ltb}

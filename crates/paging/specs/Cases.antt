@@ -8,7 +8,7 @@ use Prim.Native.Nat.{ℕ, suc, _<_}
 use lib.Dec.{eqb}
 use lib.ListN.{replicate}
 use native.Mathlib.Omega.{arith}
-use Rattle.paging.specs.Lists.{pick, both, all}
+use Rattle.paging.specs.Lists.{both, all}
 use Rattle.paging.specs.Refusals.{table}
 use Rattle.paging.specs.Rules.{mark}
 use Rattle.paging.specs.Walk.{faults, plan}

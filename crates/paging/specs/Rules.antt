@@ -3,8 +3,8 @@
 -- A rule is a description: `drops rule rest es e` is true of the entry e that goes, among the held entries es, with the requests rest still to come.
 -- Exactly one entry fits it (proofs/Drops.antt, which also says each description in terms of the trace); its frame is `chosen`.
 -- Assumes nothing.
-use mathlib.Core.Bool.{Bool, true, false}
-use mathlib.Core.List.{List, [], _∷_}
+use mathlib.Core.Bool.{Bool}
+use mathlib.Core.List.{List, []}
 use Prim.Native.Nat.{ℕ}
 use lib.Dec.{eqb, leb}
 use lib.ListN.{length}

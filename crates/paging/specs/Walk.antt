@@ -4,13 +4,12 @@
 -- In order: which frame; the two ways to write an entry; one request; the walk; its two readings, faults and plan; the state at a moment.
 -- Assumes nothing.
 use mathlib.Core.List.{List, [], _∷_, _++_, map}
-use mathlib.Core.Bool.{Bool, true, false}
+use mathlib.Core.Bool.{Bool}
 use Prim.Native.Nat.{ℕ, zero, suc, _+_}
 use lib.Dec.{eqb, ltb}
 use lib.ListN.{length, getD, set, drop}
-use Rattle.paging.specs.Lists.{pick, any, all, indexOf}
+use Rattle.paging.specs.Lists.{pick, any, indexOf}
 use Rattle.paging.specs.Rules.{mark, chosen}
-use Rattle.paging.specs.declared.Page.{Page}
 use Rattle.paging.specs.declared.Entry.{Entry}
 use Rattle.paging.specs.declared.Rule.{Rule}
 use Rattle.paging.specs.declared.Outcome.{Outcome}

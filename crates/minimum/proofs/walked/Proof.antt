@@ -1,6 +1,5 @@
 -- `minimum::walked` meets its contract: the loop's invariant is `Running`.
 -- Assumes nothing.
-use mathlib.Core.Path.{_≡_, ap, _∙_}
 use mathlib.Core.Logic.{⊎-elim}
 use Prim.Native.Nat.{_-_, _≤_}
 use native.Mathlib.Omega.{arith}

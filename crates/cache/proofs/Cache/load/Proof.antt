@@ -1,12 +1,10 @@
 -- `cache::Cache::load` meets its contract: `served-room` where a frame is free, `served-full` where none is.
 -- Assumes nothing.
-use mathlib.Core.Path.{_≡_, sym, _∙_}
-use Prim.Native.Nat.{_≤_, _<_}
+use Prim.Native.Nat.{_<_}
 use native.Mathlib.Omega.{arith}
-use lib.ListN.{length}
 use borrow.Author.Needs.{needs}
 use Rattle.paging.specs.Rules.{chosen}
-use Rattle.cache.specs.Record.{heldOf, heldEntries, ruleOf}
+use Rattle.cache.specs.Record.{heldEntries, ruleOf}
 use Rattle.cache.proofs.Long.{long}
 use Rattle.cache.proofs.Soundness.{Sound, sound-is}
 use Rattle.cache.proofs.Step.{served-room, served-full}

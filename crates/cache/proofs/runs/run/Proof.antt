@@ -1,7 +1,7 @@
 -- `cache::runs::run` meets its contract: the tests of `fedTests` in their order, then the loop from an empty cache.
 -- Assumes nothing.
-use mathlib.Core.Path.{_≡_, sym, ap, _∙_}
-use mathlib.Core.Bool.{true, false}
+use mathlib.Core.Path.{_≡_, sym, _∙_}
+use mathlib.Core.Bool.{true}
 use borrow.Author.Needs.{needs}
 use borrow.Author.Tests.{not-true, not-false}
 use Rattle.paging.specs.Calls.{gate, traceTests}
