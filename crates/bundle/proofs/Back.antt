@@ -1,10 +1,10 @@
 -- Words to bytes and back: reading the bytes of words gives the words, and the bytes of the words read are the bytes.
 -- Assumes nothing.
-use mathlib.Core.Path.{_≡_, refl, sym, ap, ap₂, _∙_}
+use mathlib.Core.Path.{_≡_, refl, ap, ap₂, _∙_}
 use mathlib.Core.List.{List, [], _∷_, _++_, append-assoc}
-use Prim.Native.Nat.{ℕ, zero, suc, _+_, _*_, _/_, _%_, _≤_, _<_}
+use Prim.Native.Nat.{ℕ, zero, suc, _+_, _*_, _/_, _%_, _<_}
 use native.Mathlib.Omega.{arith}
-use lib.ListN.{length, getD}
+use lib.ListN.{length}
 use lib.Seq.{getD-append-add}
 use Rattle.bundle.specs.Bytes.{wordAt, wordsAt, bytesOf, bytesIn, section}
 use Rattle.bundle.specs.Writing.{fileOf}

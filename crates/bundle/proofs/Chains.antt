@@ -11,7 +11,7 @@ use lib.ListN.{length, getD, drop, length-append}
 use borrow.Author.Tests.{lt-ltb, le-ltb, ltb-false, eqb-true}
 use Rattle.paging.specs.Lists.{pick, not}
 use Rattle.paging.specs.Calls.{requestLimit, Test, test, gate, outside, marked, firstMark, traceTests}
-use Rattle.paging.specs.Services.{laid, leftBy}
+use Rattle.paging.specs.Services.{leftBy}
 use Rattle.paging.specs.declared.Gate.{Gate}
 use Rattle.paging.specs.declared.Gate.the-variants.{Open, No}
 use Rattle.paging.specs.declared.Refusal.{Refusal}

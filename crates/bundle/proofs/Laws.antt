@@ -13,7 +13,7 @@ use lib.Dec.{ltb}
 use lib.ListN.{length, take, drop}
 use lib.Seq.{take-at}
 use borrow.Author.Tests.{le-ltb, eq-eqb, ltb-false}
-use Rattle.paging.specs.Lists.{pick, not}
+use Rattle.paging.specs.Lists.{pick}
 use Rattle.paging.specs.Calls.{requestLimit, test, gate, outside, marked, traceTests}
 use Rattle.paging.specs.declared.Gate.{Gate}
 use Rattle.paging.specs.declared.Gate.the-variants.{Open, No}
@@ -23,10 +23,10 @@ use Rattle.bundle.specs.Reading.{requestCount, planPlace, planCount, fil
 use Rattle.bundle.specs.Writing as writing
 use Rattle.bundle.specs.Writing.{fileOf, callTests, writeTests, writeOf, roomLeft}
 use Rattle.bundle.specs.declared.Sizes.{Sizes}
-use Rattle.bundle.specs.declared.ReadAnswer.the-variants.{Bundle, Refused}
+use Rattle.bundle.specs.declared.ReadAnswer.the-variants.{Bundle}
 use Rattle.bundle.specs.declared.WriteAnswer.the-variants.{Bytes}
 use Rattle.bundle.proofs.Bytes.{length-words, length-bytes, bytes-append}
-use Rattle.bundle.proofs.Chains.{passes, met, first-open, Formed, Accepted, accepted, read-done, length-file, call-requests, call-planned, write-done}
+use Rattle.bundle.proofs.Chains.{passes, met, first-open, Accepted, accepted, read-done, length-file, call-requests, call-planned, write-done}
 use Rattle.bundle.proofs.Back.{Below, words-behind, words-back, bytes-back, words-append, file-words}
 
 -- ---- which files are accepted

@@ -4,10 +4,10 @@
 -- answer. Everything is a function of the file's bytes and of what was lent, so a file has one reading.
 -- Assumes nothing.
 use mathlib.Core.List.{List, [], _∷_, _++_}
-use mathlib.Core.Bool.{Bool, true, false}
+use mathlib.Core.Bool.{Bool, true}
 use Prim.Native.Nat.{ℕ, _+_, _*_, _/_}
 use lib.Dec.{eqb, ltb}
-use lib.ListN.{length, take, drop}
+use lib.ListN.{length}
 use Rattle.paging.specs.Lists.{pick, not}
 use Rattle.paging.specs.Calls.{requestLimit, Test, test, gate, outside, marked, firstMark}
 use Rattle.paging.specs.Services.{leftBy}

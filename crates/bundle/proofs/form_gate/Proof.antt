@@ -1,7 +1,7 @@
 -- `bundle::form_gate` meets its contract: the head, then what follows it.
 -- Assumes nothing.
 use borrow.Author.Needs.{needs}
-use mathlib.Core.Path.{_≡_, sym, ap, _∙_}
+use mathlib.Core.Path.{_≡_, sym, _∙_}
 use Rattle.paging.specs.Calls.{gate}
 use Rattle.bundle.specs.Reading.{headTests, tailTests, formTests}
 use Rattle.paging.specs.declared.Gate.the-variants.{Open}

@@ -1,7 +1,7 @@
 -- `bundle::head_gate` meets its contract: the four tests in their order.
 -- Assumes nothing.
 use borrow.Author.Needs.{needs}
-use borrow.Author.Tests.{lt-ltb, le-ltb, eq-eqb, ne-eqb, not-true, not-false}
+use borrow.Author.Tests.{lt-ltb, le-ltb, eq-eqb, ne-eqb}
 use Rattle.paging.specs.Calls.{gate}
 use Rattle.bundle.specs.Reading.{headTests}
 use Rattle.bundle.proofs.head_gate.Statement.{statement}

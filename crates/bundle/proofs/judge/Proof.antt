@@ -2,14 +2,14 @@
 -- Assumes nothing.
 use borrow.Author.Needs.{needs}
 use mathlib.Core.Path.{_≡_, sym, ap, ap₂, _∙_}
-use Prim.Native.Nat.{ℕ, _+_, _*_, _≤_, _<_}
+use Prim.Native.Nat.{ℕ, _+_, _*_}
 use native.Mathlib.Omega.{arith}
 use Rattle.paging.specs.Calls.{gate}
 use Rattle.paging.specs.declared.Gate.{Gate}
-use Rattle.paging.specs.declared.Gate.the-variants.{Open, No}
+use Rattle.paging.specs.declared.Gate.the-variants.{Open}
 use Rattle.calls.specs.Chain.{lentGate}
 use Rattle.bundle.specs.Bytes.{wordAt}
-use Rattle.bundle.specs.Reading.{requestCount, planCount, formTests, valueTests}
+use Rattle.bundle.specs.Reading.{formTests, valueTests}
 use Rattle.bundle.proofs.Chains.{Formed, formed, judge-stops, judge-goes-on}
 use Rattle.bundle.proofs.judge.Statement.{statement}
 use Rattle.bundle.proofs.judge.Tie as tie

@@ -1,13 +1,12 @@
 -- `bundle::put_section` meets its contract: the count, then the words.
 -- Assumes nothing.
 use borrow.Author.Needs.{needs}
-use mathlib.Core.Path.{_≡_, sym, ap, _∙_}
+use mathlib.Core.Path.{ap, _∙_}
 use mathlib.Core.List.{List}
-use Prim.Native.Nat.{ℕ, _+_, _*_, _≤_, _<_}
+use Prim.Native.Nat.{ℕ, _+_, _*_, _≤_}
 use Rattle.bundle.specs.Bytes.{bytesIn, over}
-use native.Mathlib.Omega.{arith}
 use lib.ListN.{length}
-use Rattle.bundle.proofs.Bytes.{length-word, length-over, put-whole}
+use Rattle.bundle.proofs.Bytes.{put-whole}
 use Rattle.bundle.proofs.put_section.Statement.{statement}
 use Rattle.bundle.proofs.put_section.Tie as tie
 

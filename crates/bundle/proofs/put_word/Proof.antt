@@ -2,7 +2,6 @@
 -- Assumes nothing.
 use borrow.Author.Needs.{needs}
 use native.Mathlib.Omega.{arith}
-use mathlib.Core.Path.{_≡_, sym, ap, _∙_}
 use lib.ListN.{length-set}
 use Rattle.bundle.proofs.Bytes.{put-four}
 use Rattle.bundle.proofs.put_word.Statement.{statement}

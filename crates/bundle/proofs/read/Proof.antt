@@ -2,12 +2,12 @@
 -- Assumes nothing.
 use borrow.Author.Needs.{needs}
 use mathlib.Core.Path.{_≡_, sym, ap, ap₂, _∙_}
-use mathlib.Core.List.{List, [], _∷_, _++_}
-use Prim.Native.Nat.{ℕ, _+_, _*_, _≤_, _<_}
+use mathlib.Core.List.{_++_}
+use Prim.Native.Nat.{ℕ, _+_, _*_}
 use native.Mathlib.Omega.{arith}
 use lib.ListN.{length, drop}
 use Rattle.paging.specs.Calls.{gate}
-use Rattle.paging.specs.declared.Gate.the-variants.{Open, No}
+use Rattle.paging.specs.declared.Gate.the-variants.{Open}
 use Rattle.bundle.specs.Bytes.{wordAt, wordsAt}
 use Rattle.bundle.specs.Reading.{planCount, readTests}
 use Rattle.bundle.proofs.Chains.{Accepted, accepted, read-refused, read-done}

@@ -1,7 +1,7 @@
 -- `bundle::size_gate` meets its contract: the three tests in their order.
 -- Assumes nothing.
 use borrow.Author.Needs.{needs}
-use borrow.Author.Tests.{lt-ltb, le-ltb, eq-eqb, ne-eqb, not-true, not-false}
+use borrow.Author.Tests.{lt-ltb, le-ltb}
 use Rattle.paging.specs.Calls.{gate}
 use Rattle.bundle.specs.Reading.{sizeTests}
 use Rattle.bundle.proofs.size_gate.Statement.{statement}

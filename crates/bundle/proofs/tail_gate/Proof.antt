@@ -2,8 +2,8 @@
 -- Assumes nothing.
 use borrow.Author.Needs.{needs}
 use native.Mathlib.Omega.{arith}
-use mathlib.Core.Path.{_≡_, sym, ap, _∙_}
-use borrow.Author.Tests.{lt-ltb, le-ltb, eq-eqb, ne-eqb, not-true, not-false}
+use mathlib.Core.Path.{sym, _∙_}
+use borrow.Author.Tests.{lt-ltb, le-ltb, not-true, not-false}
 use Rattle.paging.specs.Calls.{gate}
 use Rattle.bundle.specs.Reading.{tailTests}
 use Rattle.bundle.proofs.Chains.{fits-small}

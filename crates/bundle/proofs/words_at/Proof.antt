@@ -1,12 +1,12 @@
 -- `bundle::words_at` meets its contract. The loop's invariant: the words passed stand at the front of the list as lent.
 -- Assumes nothing.
 use borrow.Author.Needs.{needs}
-use mathlib.Core.Path.{_≡_, refl, sym, ap, ap₂, _∙_}
+use mathlib.Core.Path.{_≡_, refl, ap, ap₂, _∙_}
 use mathlib.Core.List.{List, _++_}
-use Prim.Native.Nat.{ℕ, _+_, _*_, _-_, _≤_, _<_}
+use Prim.Native.Nat.{ℕ, _-_, _≤_, _<_}
 use native.Mathlib.Omega.{arith}
 use lib.ListN.{length, drop, set, length-set}
-use Rattle.bundle.specs.Bytes.{wordAt, wordsAt}
+use Rattle.bundle.specs.Bytes.{wordsAt}
 use Rattle.bundle.proofs.Bytes.{words-next, words-none}
 use Rattle.bundle.proofs.words_at.Statement.{statement}
 use Rattle.bundle.proofs.words_at.Tie as tie
