@@ -1,4 +1,5 @@
 pub mod Bytes
+pub mod Places
 pub mod Chains
 pub mod Back
 pub mod Laws

@@ -15,6 +15,8 @@ ghost use Rattle.bundle.specs.Numbers.{readNumbers, writeNumbers};
 use paging::Gate;
 use paging::Refusal;
 
+pub mod reader; // reader.rt: a file and a place in it
+
 // The word at a byte of a file, or none where the file ends before the word does.
 pub enum Word {
     Is(u32),
@@ -84,6 +86,17 @@ pub fn word_at(file: &[u8], at: usize) -> Word
     Word::Is(whole_at(file, at))
 }
 
+// The word at a byte of a file that has it, by a reader.
+fn number_at(file: &[u8], at: usize) -> u32
+    requires { ⌜ at + 4 ≤ length (now file) ⌝ }
+    ensures { λ r. ⌜ r ≡ wordAt (now (file .entry)) at ⌝ }
+{
+    match reader::word_from(file, at) {
+        Word::Is(word) => word,
+        Word::Missing => 0,
+    }
+}
+
 // Copies so many words of the file to the front of the lent list.
 fn words_at(file: &[u8], at: usize, count: usize, out: &mut [u32])
     requires { ⌜ (at + 4 * count ≤ length (now file)) × (count ≤ length (now out)) ⌝ }
@@ -126,13 +139,13 @@ fn head_gate(file: &[u8]) -> Gate
     if file.len() < 4 {
         return cut(file.len());
     }
-    if whole_at(file, 0) != 2 {
+    if number_at(file, 0) != 2 {
         return Gate::No(Refusal::CountNotAllowed(0));
     }
     if file.len() < 16 {
         return cut(file.len());
     }
-    if (calls::REQUESTS as u32) < whole_at(file, 12) {
+    if (calls::REQUESTS as u32) < number_at(file, 12) {
         return Gate::No(Refusal::CountNotAllowed(12));
     }
     Gate::Open
@@ -157,7 +170,7 @@ fn tail_gate(file: &[u8], requests: usize) -> Gate
     if file.len() < at + 4 {
         return cut(file.len());
     }
-    let planned = whole_at(file, at) as usize;
+    let planned = number_at(file, at) as usize;
     if !plan_fits(requests, planned) {
         return Gate::No(Refusal::CountNotAllowed(at as u32));
     }
@@ -177,7 +190,7 @@ fn form_gate(file: &[u8]) -> Gate
 {
     match head_gate(file) {
         Gate::No(refusal) => Gate::No(refusal),
-        Gate::Open => tail_gate(file, whole_at(file, 12) as usize),
+        Gate::Open => tail_gate(file, number_at(file, 12) as usize),
     }
 }
 
@@ -202,7 +215,7 @@ fn value_gate(file: &[u8], requests: usize) -> Gate
     requires { ⌜ (requests ≡ requestCount (now file)) × (requests ≤ requestLimit) × (16 + 4 * requests ≤ length (now file)) ⌝ }
     ensures { λ r. ⌜ r ≡ gate (valueTests (now (file .entry))) ⌝ }
 {
-    match size_gate(whole_at(file, 4), whole_at(file, 8), 4, 8) {
+    match size_gate(number_at(file, 4), number_at(file, 8), 4, 8) {
         Gate::No(refusal) => Gate::No(refusal),
         Gate::Open => {
             let moment = mark_at(file, requests);
@@ -221,8 +234,8 @@ fn judge(file: &[u8], requests: usize, plan: usize) -> Gate
     match form_gate(file) {
         Gate::No(refusal) => Gate::No(refusal),
         Gate::Open => {
-            let count = whole_at(file, 12) as usize;
-            let planned = whole_at(file, 16 + 4 * count) as usize;
+            let count = number_at(file, 12) as usize;
+            let planned = number_at(file, 16 + 4 * count) as usize;
             calls::lent_gate(
                 calls::lent_gate(value_gate(file, count), count, requests),
                 planned,
@@ -240,14 +253,14 @@ pub fn read(file: &[u8], requests: &mut [u32], plan: &mut [u32]) -> ReadAnswer
     match judge(file, requests.len(), plan.len()) {
         Gate::No(refusal) => ReadAnswer::Refused(refusal),
         Gate::Open => {
-            let count = whole_at(file, 12);
+            let count = number_at(file, 12);
             let at = 16 + 4 * (count as usize);
-            let planned = whole_at(file, at);
+            let planned = number_at(file, at);
             words_at(file, 16, count as usize, requests);
             words_at(file, at + 4, planned as usize, plan);
             ReadAnswer::Bundle(Sizes {
-                n: whole_at(file, 4),
-                m: whole_at(file, 8),
+                n: number_at(file, 4),
+                m: number_at(file, 8),
                 requests: count,
                 planned: planned,
             })

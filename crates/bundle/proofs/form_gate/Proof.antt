@@ -22,14 +22,14 @@ enum-known-refusal c = search needs
 enum-told : tie.Need-enum-told
 enum-told c = search needs
 
-whole-at-requires : tie.Need-whole-at-requires
-whole-at-requires c κs = head-there _ (head-open c)
+number-at-requires : tie.Need-number-at-requires
+number-at-requires c κs = head-there _ (head-open c)
 
 cast-tail-gate : tie.Need-cast-tail-gate
 cast-tail-gate c = search needs
 
 tail-gate-requires : tie.Need-tail-gate-requires
-tail-gate-requires c κs = (c .whole-at .ensures, rw (c .whole-at .ensures) (head-requests _ (head-open (c .before))))
+tail-gate-requires c κs = (c .number-at .ensures, rw (c .number-at .ensures) (head-requests _ (head-open (c .before))))
 
 returns : tie.Need-returns
 unfolding formTests
@@ -52,7 +52,7 @@ form-gate-spec =
     head-gate-requires
     enum-known-refusal
     enum-told
-    whole-at-requires
+    number-at-requires
     cast-tail-gate
     tail-gate-requires
     returns

@@ -30,20 +30,20 @@ enum-known-refusal c = search needs
 enum-told : tie.Need-enum-told
 enum-told c = search needs
 
-whole-at-requires : tie.Need-whole-at-requires
-whole-at-requires c κs = omega (arith, form-is c .whole)
+number-at-requires : tie.Need-number-at-requires
+number-at-requires c κs = omega (arith, form-is c .whole)
 
 cast-count : tie.Need-cast-count
 cast-count c = search needs
 
-mul-whole-at : tie.Need-mul-whole-at
-mul-whole-at c = search needs
+mul-number-at : tie.Need-mul-number-at
+mul-number-at c = search needs
 
-add-whole-at : tie.Need-add-whole-at
-add-whole-at c = search needs
+add-number-at : tie.Need-add-number-at
+add-number-at c = search needs
 
-whole-at-requires-2 : tie.Need-whole-at-requires-2
-whole-at-requires-2 c κs = omega (arith, form-is (c .before) .whole, c .whole-at .ensures)
+number-at-requires-2 : tie.Need-number-at-requires-2
+number-at-requires-2 c κs = omega (arith, form-is (c .before) .whole, c .number-at .ensures)
 
 cast-planned : tie.Need-cast-planned
 cast-planned c = search needs
@@ -51,7 +51,7 @@ cast-planned c = search needs
 value-gate-requires : tie.Need-value-gate-requires
 value-gate-requires c κs =
     let w = c .before in
-    (w .whole-at .ensures, omega (arith, form-is (w .before) .requests, w .whole-at .ensures), omega (arith, form-is (w .before) .whole, w .whole-at .ensures))
+    (w .number-at .ensures, omega (arith, form-is (w .before) .requests, w .number-at .ensures), omega (arith, form-is (w .before) .whole, w .number-at .ensures))
 
 lent-gate-requires : tie.Need-lent-gate-requires
 lent-gate-requires c κs = search needs
@@ -73,11 +73,11 @@ returns-2 c =
     let s = o .before .before .before .before in
     let file = s .args .file .now in
     c .lent-gate2 .ensures
-    ∙ ap (λ (g : Gate). lentGate g (v .before .whole-at2 .result) (s .args .plan))
-    (c .before .lent-gate .ensures ∙ ap (λ (g : Gate). lentGate g (w .whole-at .result) (s .args .requests)) (v .value-gate .ensures))
+    ∙ ap (λ (g : Gate). lentGate g (v .before .number-at2 .result) (s .args .plan))
+    (c .before .lent-gate .ensures ∙ ap (λ (g : Gate). lentGate g (w .number-at .result) (s .args .requests)) (v .value-gate .ensures))
     ∙ ap₂ (λ (t p : ℕ). lentGate (lentGate (gate (valueTests file)) t (s .args .requests)) p (s .args .plan))
-    (w .whole-at .ensures)
-    (v .before .whole-at2 .ensures ∙ ap (λ (k : ℕ). wordAt file (16 + 4 * k)) (w .whole-at .ensures))
+    (w .number-at .ensures)
+    (v .before .number-at2 .ensures ∙ ap (λ (k : ℕ). wordAt file (16 + 4 * k)) (w .number-at .ensures))
     ∙ judge-goes-on file (s .args .requests) (s .args .plan) (form-open o)
 
 pub judge-spec : {M : Type 1} → statement M
@@ -87,11 +87,11 @@ judge-spec =
     form-gate-requires
     enum-known-refusal
     enum-told
-    whole-at-requires
+    number-at-requires
     cast-count
-    mul-whole-at
-    add-whole-at
-    whole-at-requires-2
+    mul-number-at
+    add-number-at
+    number-at-requires-2
     cast-planned
     value-gate-requires
     lent-gate-requires

@@ -26,10 +26,10 @@ file-is : (c : tie.After-enum-told)
     (length (c .before .before .before .before .before .before .args .plan .now))
 file-is c = let s = c .before .before .before .before .before .before in accepted (s .args .file .now) (length (s .args .requests .now)) (length (s .args .plan .now)) (open-gate c)
 
-planned-is : (c : tie.After-whole-at2) → c .whole-at2 .result ≡ planCount (c .before .before .before .before .before .before .before .before .args .file .now)
+planned-is : (c : tie.After-number-at2) → c .number-at2 .result ≡ planCount (c .before .before .before .before .before .before .before .before .args .file .now)
 planned-is c =
     let s = c .before .before .before .before .before .before .before .before in
-    c .whole-at2 .ensures ∙ ap (λ (k : ℕ). wordAt (s .args .file .now) (16 + 4 * k)) (c .before .whole-at .ensures)
+    c .number-at2 .ensures ∙ ap (λ (k : ℕ). wordAt (s .args .file .now) (16 + 4 * k)) (c .before .number-at .ensures)
 
 judge-requires : tie.Need-judge-requires
 judge-requires c κs = search needs
@@ -40,8 +40,8 @@ enum-known-refusal c = search needs
 enum-told : tie.Need-enum-told
 enum-told c = search needs
 
-whole-at-requires : tie.Need-whole-at-requires
-whole-at-requires c κs = omega (arith, file-is c .form .whole)
+number-at-requires : tie.Need-number-at-requires
+number-at-requires c κs = omega (arith, file-is c .form .whole)
 
 cast-at : tie.Need-cast-at
 cast-at c = search needs
@@ -52,8 +52,8 @@ mul-at c = search needs
 add-at : tie.Need-add-at
 add-at c = search needs
 
-whole-at-requires-2 : tie.Need-whole-at-requires-2
-whole-at-requires-2 c κs = omega (arith, file-is (c .before) .form .whole, c .whole-at .ensures)
+number-at-requires-2 : tie.Need-number-at-requires-2
+number-at-requires-2 c κs = omega (arith, file-is (c .before) .form .whole, c .number-at .ensures)
 
 cast-words-at : tie.Need-cast-words-at
 cast-words-at c = search needs
@@ -62,7 +62,7 @@ words-at-requires : tie.Need-words-at-requires
 words-at-requires c κs =
     let w = c .before .before in
     let a = file-is (w .before) in
-    (omega (arith, a .form .whole, w .whole-at .ensures), omega (arith, a .room, w .whole-at .ensures))
+    (omega (arith, a .form .whole, w .number-at .ensures), omega (arith, a .room, w .number-at .ensures))
 
 add-words-at : tie.Need-add-words-at
 add-words-at c = search needs
@@ -75,13 +75,13 @@ words-at-requires-2 c κs =
     let p = c .before .before .before .before .before in
     let w = p .before in
     let a = file-is (w .before) in
-    (omega (arith, a .form .whole, w .whole-at .ensures, planned-is p), omega (arith, a .plan-room, planned-is p))
+    (omega (arith, a .form .whole, w .number-at .ensures, planned-is p), omega (arith, a .plan-room, planned-is p))
 
-whole-at-requires-3 : tie.Need-whole-at-requires-3
-whole-at-requires-3 c κs = omega (arith, file-is (c .before .before .before .before .before .before .before .before .before .before) .form .whole)
+number-at-requires-3 : tie.Need-number-at-requires-3
+number-at-requires-3 c κs = omega (arith, file-is (c .before .before .before .before .before .before .before .before .before .before) .form .whole)
 
-whole-at-requires-4 : tie.Need-whole-at-requires-4
-whole-at-requires-4 c κs = omega (arith, file-is (c .before .before .before .before .before .before .before .before .before .before .before) .form .whole)
+number-at-requires-4 : tie.Need-number-at-requires-4
+number-at-requires-4 c κs = omega (arith, file-is (c .before .before .before .before .before .before .before .before .before .before .before) .form .whole)
 
 returns : tie.Need-returns
 returns c =
@@ -104,9 +104,9 @@ returns-2 c =
     let s = w .before .before .before .before .before .before .before in
     let file = s .args .file .now in
     let d = read-done file (s .args .requests .now) (s .args .plan .now) (open-gate (w .before)) in (
-      rw (c .before .whole-at3 .ensures, c .whole-at4 .ensures, planned-is p, w .whole-at .ensures) (d .0),
-      x .words-at .ensures ∙ ap (λ (t : ℕ). wordsAt file 16 t ++ drop t (s .args .requests .now)) (w .whole-at .ensures) ∙ d .1,
-      y .words-at2 .ensures ∙ ap₂ (λ (t k : ℕ). wordsAt file (16 + 4 * t + 4) k ++ drop k (s .args .plan .now)) (w .whole-at .ensures) (planned-is p) ∙ d .2,
+      rw (c .before .number-at3 .ensures, c .number-at4 .ensures, planned-is p, w .number-at .ensures) (d .0),
+      x .words-at .ensures ∙ ap (λ (t : ℕ). wordsAt file 16 t ++ drop t (s .args .requests .now)) (w .number-at .ensures) ∙ d .1,
+      y .words-at2 .ensures ∙ ap₂ (λ (t k : ℕ). wordsAt file (16 + 4 * t + 4) k ++ drop k (s .args .plan .now)) (w .number-at .ensures) (planned-is p) ∙ d .2,
     )
 
 pub read-spec : {M : Type 1} → statement M
@@ -116,18 +116,18 @@ read-spec =
     judge-requires
     enum-known-refusal
     enum-told
-    whole-at-requires
+    number-at-requires
     cast-at
     mul-at
     add-at
-    whole-at-requires-2
+    number-at-requires-2
     cast-words-at
     words-at-requires
     add-words-at
     cast-words-at-2
     words-at-requires-2
-    whole-at-requires-3
-    whole-at-requires-4
+    number-at-requires-3
+    number-at-requires-4
     returns
     same-length
     same-length-2

@@ -26,8 +26,8 @@ returns : tie.Need-returns
 unfolding gate tailTests
 returns c = rw (c .cut .ensures, ← c .before .before .before .pre .0, lt-ltb _ _ (c .before .if1 .taken))
 
-whole-at-requires : tie.Need-whole-at-requires
-whole-at-requires c κs = search needs
+number-at-requires : tie.Need-number-at-requires
+number-at-requires c κs = search needs
 
 cast-planned : tie.Need-cast-planned
 cast-planned c = search needs
@@ -40,7 +40,7 @@ cast-t12 c = search needs
 
 returns-2 : tie.Need-returns-2
 unfolding gate tailTests
-returns-2 c = rw (← c .before .before .before .before .before .pre .0, le-ltb _ _ (c .before .before .before .if1 .left), ← c .before .before .whole-at .ensures, ← c .before .plan-fits .ensures, not-true (c .before .plan-fits .result) (c .if2 .taken))
+returns-2 c = rw (← c .before .before .before .before .before .pre .0, le-ltb _ _ (c .before .before .before .if1 .left), ← c .before .before .number-at .ensures, ← c .before .plan-fits .ensures, not-true (c .before .plan-fits .result) (c .if2 .taken))
 
 add-end : tie.Need-add-end
 add-end c = search needs
@@ -52,22 +52,22 @@ add-end-2 : tie.Need-add-end-2
 add-end-2 c = search needs
 
 cut-requires-2 : tie.Need-cut-requires-2
-cut-requires-2 c κs = omega (arith, fits-small (c .before .before .before .before .before .before .args .requests) (c .before .before .before .whole-at .result) (sym (c .before .before .plan-fits .ensures) ∙ not-false (c .before .before .plan-fits .result) (c .before .if2 .left)))
+cut-requires-2 c κs = omega (arith, fits-small (c .before .before .before .before .before .before .args .requests) (c .before .before .before .number-at .result) (sym (c .before .before .plan-fits .ensures) ∙ not-false (c .before .before .plan-fits .result) (c .before .if2 .left)))
 
 returns-3 : tie.Need-returns-3
 unfolding gate tailTests
-returns-3 c = rw (c .cut2 .ensures, ← c .before .before .before .before .before .before .before .pre .0, le-ltb _ _ (c .before .before .before .before .before .if1 .left), ← c .before .before .before .before .whole-at .ensures, ← c .before .before .before .plan-fits .ensures, not-false (c .before .before .before .plan-fits .result) (c .before .before .if2 .left), lt-ltb _ _ (c .before .if3 .taken))
+returns-3 c = rw (c .cut2 .ensures, ← c .before .before .before .before .before .before .before .pre .0, le-ltb _ _ (c .before .before .before .before .before .if1 .left), ← c .before .before .before .before .number-at .ensures, ← c .before .before .before .plan-fits .ensures, not-false (c .before .before .before .plan-fits .result) (c .before .before .if2 .left), lt-ltb _ _ (c .before .if3 .taken))
 
 cast-t15 : tie.Need-cast-t15
-cast-t15 c = omega (arith, fits-small (c .before .before .before .before .before .before .before .args .requests) (c .before .before .before .before .whole-at .result) (sym (c .before .before .before .plan-fits .ensures) ∙ not-false (c .before .before .before .plan-fits .result) (c .before .before .if2 .left)))
+cast-t15 c = omega (arith, fits-small (c .before .before .before .before .before .before .before .args .requests) (c .before .before .before .before .number-at .result) (sym (c .before .before .before .plan-fits .ensures) ∙ not-false (c .before .before .before .plan-fits .result) (c .before .before .if2 .left)))
 
 returns-4 : tie.Need-returns-4
 unfolding gate tailTests
-returns-4 c = rw (← c .before .before .before .before .before .before .before .pre .0, le-ltb _ _ (c .before .before .before .before .before .if1 .left), ← c .before .before .before .before .whole-at .ensures, ← c .before .before .before .plan-fits .ensures, not-false (c .before .before .before .plan-fits .result) (c .before .before .if2 .left), le-ltb _ _ (c .before .if3 .left), lt-ltb _ _ (c .if4 .taken))
+returns-4 c = rw (← c .before .before .before .before .before .before .before .pre .0, le-ltb _ _ (c .before .before .before .before .before .if1 .left), ← c .before .before .before .before .number-at .ensures, ← c .before .before .before .plan-fits .ensures, not-false (c .before .before .before .plan-fits .result) (c .before .before .if2 .left), le-ltb _ _ (c .before .if3 .left), lt-ltb _ _ (c .if4 .taken))
 
 returns-5 : tie.Need-returns-5
 unfolding gate tailTests
-returns-5 c = rw (← c .before .before .before .before .before .before .before .pre .0, le-ltb _ _ (c .before .before .before .before .before .if1 .left), ← c .before .before .before .before .whole-at .ensures, ← c .before .before .before .plan-fits .ensures, not-false (c .before .before .before .plan-fits .result) (c .before .before .if2 .left), le-ltb _ _ (c .before .if3 .left), le-ltb _ _ (c .if4 .left))
+returns-5 c = rw (← c .before .before .before .before .before .before .before .pre .0, le-ltb _ _ (c .before .before .before .before .before .if1 .left), ← c .before .before .before .before .number-at .ensures, ← c .before .before .before .plan-fits .ensures, not-false (c .before .before .before .plan-fits .result) (c .before .before .if2 .left), le-ltb _ _ (c .before .if3 .left), le-ltb _ _ (c .if4 .left))
 
 pub tail-gate-spec : {M : Type 1} → statement M
 tail-gate-spec =
@@ -78,7 +78,7 @@ tail-gate-spec =
     add-if1
     cut-requires
     returns
-    whole-at-requires
+    number-at-requires
     cast-planned
     plan-fits-requires
     cast-t12

@@ -18,7 +18,7 @@ use Rattle.bundle.proofs.value_gate.Tie as tie
 sizes-are : (c : tie.After-size-gate)
     → gate (sizeTests (wordAt (c .before .before .before .before .args .file .now) 4) (wordAt (c .before .before .before .before .args .file .now) 8) 4 8) ≡ c .size-gate .result
 sizes-are c =
-    sym (c .size-gate .ensures ∙ ap₂ (λ (n m : ℕ). gate (sizeTests n m 4 8)) (c .before .before .whole-at .ensures) (c .before .whole-at2 .ensures))
+    sym (c .size-gate .ensures ∙ ap₂ (λ (n m : ℕ). gate (sizeTests n m 4 8)) (c .before .before .number-at .ensures) (c .before .number-at2 .ensures))
 
 size-open : (c : tie.After-enum-told)
     → gate (sizeTests (wordAt (c .before .before .before .before .before .before .args .file .now) 4) (wordAt (c .before .before .before .before .before .before .args .file .now) 8) 4 8) ≡ Open
@@ -31,11 +31,11 @@ first-is c =
     let s = c .before .before .before .before .before .before .before in
     c .mark-at .ensures ∙ ap (λ (k : ℕ). firstMark (wordsAt (s .args .file .now) 16 k)) (s .pre .0)
 
-whole-at-requires : tie.Need-whole-at-requires
-whole-at-requires c κs = search needs
+number-at-requires : tie.Need-number-at-requires
+number-at-requires c κs = search needs
 
-whole-at-requires-2 : tie.Need-whole-at-requires-2
-whole-at-requires-2 c κs = search needs
+number-at-requires-2 : tie.Need-number-at-requires-2
+number-at-requires-2 c κs = search needs
 
 size-gate-requires : tie.Need-size-gate-requires
 size-gate-requires c κs = search needs
@@ -81,8 +81,8 @@ pub value-gate-spec : {M : Type 1} → statement M
 value-gate-spec =
     tie.close
     (tie.spec
-    whole-at-requires
-    whole-at-requires-2
+    number-at-requires
+    number-at-requires-2
     size-gate-requires
     enum-known-refusal
     enum-told

@@ -1,0 +1,67 @@
+// The reader of document 01: a bundle file's bytes, and a place in them.
+// In order: the reader and what it is made of; what stands at its place, and how much; the place moved on; a word for a caller without a reader.
+ghost use mathlib.Core.Path.{_≡_};
+ghost use Rattle.bundle.specs.Bytes.{wordIn};
+ghost use Rattle.bundle.specs.Places.{bytesFrom, placeAfter};
+use super::Word;
+
+pub struct Reader<'a> {
+    pub file: &'a [u8],
+    pub at: usize,
+}
+
+// At the file's first byte.
+pub fn new<'a>(file: &'a [u8]) -> Reader<'a>
+    ensures { λ r. ⌜ (r .file ≡ file .entry) × (r .at ≡ 0) ⌝ }
+{
+    Reader { file, at: 0 }
+}
+
+// The word at its place.
+pub fn word<'a>(r: Reader<'a>) -> Word
+    ensures { λ w. ⌜ w ≡ wordIn (now (r .entry .file)) (r .entry .at) ⌝ }
+{
+    super::word_at(r.file, r.at)
+}
+
+// How many bytes a file has from a byte on.
+pub fn left_at(file: &[u8], at: usize) -> usize
+    ensures { λ n. ⌜ n ≡ bytesFrom (now (file .entry)) at ⌝ }
+{
+    if file.len() < at {
+        return 0;
+    }
+    file.len() - at
+}
+
+// How many bytes are left from its place on.
+pub fn left<'a>(r: Reader<'a>) -> usize
+    ensures { λ n. ⌜ n ≡ bytesFrom (now (r .entry .file)) (r .entry .at) ⌝ }
+{
+    left_at(r.file, r.at)
+}
+
+// The place so many bytes on, or the file's end where it has fewer.
+pub fn place_after(file: &[u8], at: usize, bytes: usize) -> usize
+    ensures { λ n. ⌜ n ≡ placeAfter (now (file .entry)) at bytes ⌝ }
+{
+    if left_at(file, at) < bytes {
+        return file.len();
+    }
+    at + bytes
+}
+
+// The reader so many bytes on.
+pub fn skip<'a>(r: Reader<'a>, bytes: usize) -> Reader<'a>
+    ensures { λ q. ⌜ (q .file ≡ r .entry .file) × (q .at ≡ placeAfter (now (r .entry .file)) (r .entry .at) bytes) ⌝ }
+{
+    let at = place_after(r.file, r.at, bytes);
+    Reader { file: r.file, at }
+}
+
+// The word at a byte of a file, by a reader.
+pub fn word_from(file: &[u8], at: usize) -> Word
+    ensures { λ w. ⌜ w ≡ wordIn (now (file .entry)) at ⌝ }
+{
+    word(skip(new(file), at))
+}
