@@ -1,0 +1,27 @@
+-- Bytes put into a room one behind the other from a place on, as long as there is room.
+-- Assumes nothing.
+use mathlib.Core.Path.{_≡_}
+use mathlib.Core.List.{List, [], _∷_}
+use Prim.Native.Nat.{ℕ, _+_}
+use lib.Dec.{ltb}
+use lib.ListN.{length, set}
+use Rattle.paging.specs.Lists.{pick}
+
+-- the place behind a byte put at this one; where the room ends, the place stays
+abbrev pub behind : ℕ → List ℕ → ℕ
+behind at room = pick (ltb at (length room)) (at + 1) at
+
+-- the place behind the last byte put
+unfoldable pub placeAfter : ℕ → List ℕ → List ℕ → ℕ
+placeAfter at [] room = at
+placeAfter at (byte ∷ bytes) room = placeAfter (behind at room) bytes (set room at byte)
+
+-- the room with the bytes in it
+unfoldable pub roomAfter : ℕ → List ℕ → List ℕ → List ℕ
+roomAfter at [] room = room
+roomAfter at (byte ∷ bytes) room = roomAfter (behind at room) bytes (set room at byte)
+
+-- what a function answers and leaves that puts these bytes from that place on
+pub record Put (at : ℕ) (bytes room : List ℕ) (place : ℕ) (left : List ℕ) : Type 0 where
+  pub place-is : place ≡ placeAfter at bytes room
+  pub room-is : left ≡ roomAfter at bytes room
