@@ -254,16 +254,12 @@ pub fn random_files(tally: &mut Tally) {
         let fronts: [&[u32]; 5] = [&[], &[2], &[2, 3, 2], &[2, 3, 2, 1], &[2, 3, 2, 1, 7]];
         let mut file = file_of(fronts[case % 5]);
         for _ in 0..rng.below(40) {
-            let byte = rng.pick(&[0, 0, 0, 1, 2, 3, 255, rng_byte(case)]);
-            file.push(byte);
+            let any = rng.word() as u8;
+            file.push(rng.pick(&[0, 0, 0, 1, 2, 3, 255, any]));
         }
         compare_read_drawn(tally, &mut rng, &file, 3, 3);
         compare_report(tally, &file);
     }
-}
-
-fn rng_byte(case: usize) -> u8 {
-    (case * 31) as u8
 }
 
 pub fn writes(tally: &mut Tally) {

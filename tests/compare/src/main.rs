@@ -12,6 +12,7 @@ mod record_cases;
 mod records;
 
 use lent::Tally;
+use std::io::Write;
 use std::process::ExitCode;
 use std::time::Instant;
 
@@ -69,11 +70,14 @@ fn main() -> ExitCode {
 }
 
 fn run(name: &str, group: fn(&mut Tally)) -> Tally {
+    // The name comes first, so that a program that stops dead is seen to stop here.
+    print!("{name}: ");
+    let _ = std::io::stdout().flush();
     let start = Instant::now();
     let mut tally = Tally::default();
     group(&mut tally);
     println!(
-        "{name}: {} passed, {} failed, {:.1} s",
+        "{} passed, {} failed, {:.1} s",
         tally.passed,
         tally.failed,
         start.elapsed().as_secs_f64()

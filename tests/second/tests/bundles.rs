@@ -59,6 +59,7 @@ fn text(bytes: &[u8]) -> String {
 fn the_example() {
     let file = example();
     assert_eq!(file.len(), 84);
+    assert_eq!(file, include_bytes!("../../../examples/first.bundle"));
     let mut requests = [71; 10];
     let mut plan = [72; 9];
     let reply = read_bundle(&file, &mut requests, &mut plan);

@@ -139,3 +139,40 @@ fn clocks_at_the_limits() {
         assert_eq!(feed(&fed.next, M).number, 4);
     }
 }
+
+/// The fewest faults that any plan can have, by trying every page wherever one must go.
+fn fewest(n: usize, held: &[u32], rest: &[u32]) -> u32 {
+    let Some((&page, after)) = rest.split_first() else {
+        return 0;
+    };
+    if held.contains(&page) {
+        return fewest(n, held, after);
+    }
+    let mut with_page = held.to_vec();
+    with_page.push(page);
+    if held.len() < n {
+        return 1 + fewest(n, &with_page, after);
+    }
+    let mut best = u32::MAX;
+    for frame in 0..held.len() {
+        let mut next = with_page.clone();
+        next.remove(frame);
+        best = best.min(1 + fewest(n, &next, after));
+    }
+    best
+}
+
+/// Every trace of seven requests over four pages: no plan beats MIN, and MIN is reached.
+#[test]
+fn min_has_the_fewest_faults() {
+    for code in 0..4u32.pow(7) {
+        let trace: Vec<u32> = (0..7).map(|place| code / 4u32.pow(place) % 4).collect();
+        for n in 1..=3 {
+            let faults = count(MIN, n, &trace).faults;
+            assert_eq!(faults, fewest(n as usize, &[], &trace), "n {n} {trace:?}");
+            for rule in [LRU, FIFO, LRU_2] {
+                assert!(count(rule, n, &trace).faults >= faults);
+            }
+        }
+    }
+}
