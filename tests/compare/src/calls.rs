@@ -92,7 +92,7 @@ fn compare_better(tally: &mut Tally, m: u32, trace: &[u32], first: &[u32], secon
         their_words.part_mut(),
     );
     let kept = lent[0].is(trace) && lent[1].is(first) && lent[2].is(second);
-    let guards_kept = their_words.is(&their_words.part().to_vec());
+    let guards_kept = their_words.is(their_words.part());
     let part = same_part(their_words.part());
     let right = theirs.is(&ours) && guards_kept && part == our_words && kept;
     tally.case(right, || {
