@@ -2,7 +2,9 @@
 //! Good files, files cut at every byte, each kind of damage, and any bytes at all.
 
 use crate::cases::{self, Rng};
-use crate::judge::{self, TEXT_BYTES};
+use crate::judge;
+#[cfg(feature = "report")]
+use crate::judge::TEXT_BYTES;
 use crate::lent::{answer, bytes, show, words, Tally};
 use second::MARK;
 
@@ -192,6 +194,7 @@ fn compare_write(tally: &mut Tally, contents: &Contents, room: usize) {
     });
 }
 
+#[cfg(feature = "report")]
 fn compare_report(tally: &mut Tally, file: &[u8]) {
     let ours = second::report(file);
     let mut our_text = vec![0x77; TEXT_BYTES];
@@ -212,6 +215,9 @@ fn compare_report(tally: &mut Tally, file: &[u8]) {
         )
     });
 }
+
+#[cfg(not(feature = "report"))]
+fn compare_report(_tally: &mut Tally, _file: &[u8]) {}
 
 pub fn reads(tally: &mut Tally) {
     let mut rng = Rng::new(301);
@@ -367,6 +373,7 @@ fn comes_back(contents: &Contents) -> bool {
         && again == file
 }
 
+#[cfg(feature = "report")]
 pub fn reports(tally: &mut Tally) {
     let mut rng = Rng::new(308);
     compare_report(tally, &example().file());

@@ -62,6 +62,7 @@ extern "C" {
     );
 
     /// record: 1,028 words, written. answer: number, place.
+    #[cfg(feature = "records")]
     fn hedravos_fresh(
         rule: u32,
         n: u32,
@@ -72,9 +73,11 @@ extern "C" {
     );
 
     /// record: 1,028 words, read. answer: 1 if sound, else 0.
+    #[cfg(feature = "records")]
     fn hedravos_sound(record: *const u32, record_len: usize, answer: *mut u32, answer_len: usize);
 
     /// record: 1,028 words, read; next: 1,028 words, written. answer: number, place, kind, page.
+    #[cfg(feature = "records")]
     fn hedravos_feed(
         record: *const u32,
         record_len: usize,
@@ -122,6 +125,7 @@ extern "C" {
     );
 
     /// text: at least 256 bytes, the front of which is written. answer: bytes written.
+    #[cfg(feature = "report")]
     fn hedravos_report(
         bytes: *const u8,
         bytes_len: usize,
@@ -133,8 +137,10 @@ extern "C" {
 }
 
 /// Rule, frames, clock, held, then page, loaded, last, earlier of each of 256 entries.
+#[cfg(feature = "records")]
 pub const RECORD_WORDS: usize = 4 + 4 * 256;
 /// The room lent for a report's text.
+#[cfg(feature = "report")]
 pub const TEXT_BYTES: usize = 256;
 
 pub fn count(rule: u32, n: u32, trace: &[u32], answer: &mut [u32]) {
@@ -211,6 +217,7 @@ pub fn better_words(m: u32, trace: &[u32], first: &[u32], second: &[u32], answer
     }
 }
 
+#[cfg(feature = "records")]
 pub fn fresh(rule: u32, n: u32, record: &mut [u32], answer: &mut [u32]) {
     unsafe {
         hedravos_fresh(
@@ -224,6 +231,7 @@ pub fn fresh(rule: u32, n: u32, record: &mut [u32], answer: &mut [u32]) {
     }
 }
 
+#[cfg(feature = "records")]
 pub fn sound(record: &[u32], answer: &mut [u32]) {
     unsafe {
         hedravos_sound(
@@ -235,6 +243,7 @@ pub fn sound(record: &[u32], answer: &mut [u32]) {
     }
 }
 
+#[cfg(feature = "records")]
 pub fn feed(record: &[u32], page: u32, next: &mut [u32], answer: &mut [u32]) {
     unsafe {
         hedravos_feed(
@@ -294,6 +303,7 @@ pub fn write(n: u32, m: u32, trace: &[u32], plan: &[u32], room: &mut [u8], answe
     }
 }
 
+#[cfg(feature = "report")]
 pub fn report(bytes: &[u8], text: &mut [u8], answer: &mut [u32]) {
     unsafe {
         hedravos_report(

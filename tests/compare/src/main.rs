@@ -8,7 +8,9 @@ mod judge;
 mod lent;
 #[cfg(feature = "self-check")]
 mod mirror;
+#[cfg(feature = "records")]
 mod record_cases;
+#[cfg(feature = "records")]
 mod records;
 
 use lent::Tally;
@@ -18,7 +20,7 @@ use std::time::Instant;
 
 type Group = (&'static str, fn(&mut Tally));
 
-const GROUPS: [Group; 23] = [
+const GROUPS: &[Group] = &[
     ("trial", calls::trials),
     ("count", calls::counts),
     ("count every size", calls::counts_every_size),
@@ -27,12 +29,19 @@ const GROUPS: [Group; 23] = [
     ("better", calls::betters),
     ("longest", calls::longest),
     ("largest", calls::largest),
+    #[cfg(feature = "records")]
     ("fresh", records::freshes),
+    #[cfg(feature = "records")]
     ("run", records::runs),
+    #[cfg(feature = "records")]
     ("long run", records::long_runs),
+    #[cfg(feature = "records")]
     ("sound record", records::sound_records),
+    #[cfg(feature = "records")]
     ("damaged record", records::damaged_records),
+    #[cfg(feature = "records")]
     ("shared moment", records::shared_moments),
+    #[cfg(feature = "records")]
     ("last request", records::last_requests),
     ("read", bundles::reads),
     ("cut", bundles::cuts),
@@ -41,6 +50,7 @@ const GROUPS: [Group; 23] = [
     ("write", bundles::writes),
     ("round trip", bundles::round_trips),
     ("long file", bundles::longest_files),
+    #[cfg(feature = "report")]
     ("report", bundles::reports),
 ];
 
@@ -54,7 +64,7 @@ fn main() -> ExitCode {
     }
     let mut passed = 0;
     let mut failed = 0;
-    for (name, group) in GROUPS {
+    for &(name, group) in GROUPS {
         if !wanted.is_empty() && !wanted.iter().any(|other| other == name) {
             continue;
         }
