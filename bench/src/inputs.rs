@@ -37,6 +37,7 @@ pub fn all() -> [(&'static str, Vec<u32>); 3] {
 }
 
 /// A bundle file of these values.
+#[cfg(any(test, feature = "report"))]
 pub fn bundle(n: u32, m: u32, trace: &[u32], plan: &[u32]) -> Vec<u8> {
     let mut words = vec![2, n, m, trace.len() as u32];
     words.extend_from_slice(trace);

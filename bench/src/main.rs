@@ -8,6 +8,8 @@ mod inputs;
 mod judge;
 #[cfg_attr(feature = "baseline-only", path = "absent.rs")]
 mod ours;
+// What is not measured stays, with its tests.
+#[cfg_attr(not(all(feature = "records", feature = "report")), allow(dead_code))]
 mod tuned;
 
 use inputs::{FRAMES, REQUESTS};
@@ -26,6 +28,7 @@ struct Room {
 type Work<'a> = Box<dyn Fn(&mut Room) -> u32 + 'a>;
 
 /// The frames of the plan in the report; fewer than n, as a claim would have.
+#[cfg(feature = "report")]
 const CLAIMED: u32 = 128;
 
 const NAMES: [(u32, &str); 4] = [
@@ -68,6 +71,7 @@ fn works(trace: &[u32]) -> Vec<(String, Work<'_>, Work<'_>)> {
         ));
     }
     list.push(check_work(trace));
+    #[cfg(feature = "records")]
     for (rule, name) in NAMES {
         if rule == tuned::MIN {
             // MIN looks ahead, so it can't be fed.
@@ -79,6 +83,7 @@ fn works(trace: &[u32]) -> Vec<(String, Work<'_>, Work<'_>)> {
             Box::new(move |room| tuned::feed_all(rule, FRAMES, trace, &mut room.words)),
         ));
     }
+    #[cfg(feature = "report")]
     list.push(report_work(trace));
     list
 }
@@ -94,6 +99,7 @@ fn check_work(trace: &[u32]) -> (String, Work<'_>, Work<'_>) {
     )
 }
 
+#[cfg(feature = "report")]
 fn report_work(trace: &[u32]) -> (String, Work<'_>, Work<'_>) {
     let mut plan = vec![0; REQUESTS];
     tuned::plan(tuned::LRU, CLAIMED, trace, &mut plan);

@@ -28,6 +28,7 @@ fn faults(answer: [u32; 3]) -> u32 {
     answer[2]
 }
 
+#[cfg(feature = "records")]
 pub fn feed_all(rule: u32, n: u32, trace: &[u32], words: &mut [u32]) -> u32 {
     let mut record = vec![0; judge::RECORD_WORDS];
     let mut next = vec![0; judge::RECORD_WORDS];
@@ -44,6 +45,7 @@ pub fn feed_all(rule: u32, n: u32, trace: &[u32], words: &mut [u32]) -> u32 {
     faults
 }
 
+#[cfg(feature = "report")]
 pub fn report(bytes: &[u8]) -> String {
     let mut text = [0; judge::TEXT_BYTES];
     let mut answer = [0];
