@@ -1,0 +1,33 @@
+//! Links the proved program's exports, unless only the tuned program is run.
+//! HEDRAVOS_EXPORTS may give the archive's path; otherwise it is target/staticlib/libexports.a.
+
+use std::env;
+use std::path::PathBuf;
+
+fn main() {
+    println!("cargo:rerun-if-env-changed=HEDRAVOS_EXPORTS");
+    if env::var_os("CARGO_FEATURE_BASELINE_ONLY").is_some() {
+        return;
+    }
+    let archive = archive();
+    println!("cargo:rerun-if-changed={}", archive.display());
+    if !archive.is_file() {
+        panic!(
+            "{} isn't there; set HEDRAVOS_EXPORTS, or use --features baseline-only",
+            archive.display()
+        );
+    }
+    let folder = archive.parent().expect("an archive lies in a folder");
+    let file = archive.file_name().unwrap().to_string_lossy();
+    let name = file.trim_start_matches("lib").trim_end_matches(".a");
+    println!("cargo:rustc-link-search=native={}", folder.display());
+    println!("cargo:rustc-link-lib=static={name}");
+}
+
+fn archive() -> PathBuf {
+    if let Some(path) = env::var_os("HEDRAVOS_EXPORTS") {
+        return PathBuf::from(path);
+    }
+    let here = PathBuf::from(env::var_os("CARGO_MANIFEST_DIR").unwrap());
+    here.join("../target/staticlib/libexports.a")
+}

@@ -1,0 +1,47 @@
+//! The three traces that speed is measured on, the same in every run: 8,000 requests each.
+//! Uniform over 400 pages, a sweep of 257 pages (one more than the frames), and skewed.
+
+pub const REQUESTS: usize = 8_000;
+pub const FRAMES: u32 = 256;
+
+/// Numbers by lot from a fixed start (xorshift).
+pub struct Lot(u64);
+
+impl Lot {
+    pub fn new(start: u64) -> Lot {
+        Lot(start.wrapping_mul(0x9E37_79B9_7F4A_7C15) | 1)
+    }
+
+    /// A number from 0 to `limit` - 1.
+    pub fn below(&mut self, limit: u32) -> u32 {
+        self.0 ^= self.0 << 13;
+        self.0 ^= self.0 >> 7;
+        self.0 ^= self.0 << 17;
+        ((self.0 >> 16) % u64::from(limit)) as u32
+    }
+
+    /// Low numbers far more often than high ones.
+    pub fn skewed(&mut self, limit: u32) -> u32 {
+        let first = self.below(limit) + 1;
+        let second = self.below(first) + 1;
+        self.below(second)
+    }
+}
+
+pub fn all() -> [(&'static str, Vec<u32>); 3] {
+    let mut lot = Lot::new(1);
+    let uniform = (0..REQUESTS).map(|_| lot.below(400)).collect();
+    let sweep = (0..REQUESTS as u32).map(|moment| moment % 257).collect();
+    let skewed = (0..REQUESTS).map(|_| lot.skewed(2_000)).collect();
+    [("uniform", uniform), ("sweep", sweep), ("skewed", skewed)]
+}
+
+/// A bundle file of these values.
+#[cfg(any(test, feature = "report"))]
+pub fn bundle(n: u32, m: u32, trace: &[u32], plan: &[u32]) -> Vec<u8> {
+    let mut words = vec![2, n, m, trace.len() as u32];
+    words.extend_from_slice(trace);
+    words.push(plan.len() as u32);
+    words.extend_from_slice(plan);
+    words.iter().flat_map(|word| word.to_le_bytes()).collect()
+}

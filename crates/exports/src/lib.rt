@@ -1,0 +1,129 @@
+// The services of document 01 for callers outside: numbers, and lists as a pointer and a length.
+// An answer goes to the front of lent words, number by number; where the words end, the rest is left out. Nothing is asked of a caller.
+ghost use mathlib.Core.Path.{_≡_};
+ghost use lib.ListN.{length, set};
+ghost use Rattle.counts.specs.Counts.{countOf, planOf, wordsOf};
+ghost use Rattle.judge.specs.Check.{checkOf};
+ghost use Rattle.judge.specs.Better.{betterOf};
+ghost use Rattle.bundle.specs.Reading.{readOf, requestsLeft, planLeft};
+ghost use Rattle.bundle.specs.Writing.{writeOf, roomLeft};
+ghost use Rattle.exports.specs.Words.{countWords, verdictWords, chosenWords, readWords, writeWords};
+use paging::Answer;
+
+// Puts a word where there is one.
+fn put(words: &mut [u32], at: usize, word: u32)
+    ensures { λ r. ⌜ now (words .exit) ≡ set (now (words .entry)) at word ⌝ }
+{
+    if at < words.len() {
+        words[at] = word;
+    }
+}
+
+fn put_count(counted: Answer, answer: &mut [u32])
+    ensures { λ r. ⌜ now (answer .exit) ≡ countWords counted (now (answer .entry)) ⌝ }
+{
+    let told = calls::answer_numbers(counted);
+    put(answer, 0, told.number);
+    put(answer, 1, told.place);
+    put(answer, 2, told.faults);
+}
+
+#[no_mangle]
+pub extern "C" fn hedravos_count(rule: u32, n: u32, trace: &[u32], answer: &mut [u32])
+    ensures { λ r. ⌜ now (answer .exit) ≡ countWords (countOf rule n (now (trace .entry))) (now (answer .entry)) ⌝ }
+{
+    put_count(counts::count(rule, n, trace), answer);
+}
+
+#[no_mangle]
+pub extern "C" fn hedravos_plan(
+    rule: u32,
+    n: u32,
+    trace: &[u32],
+    words: &mut [u32],
+    answer: &mut [u32],
+)
+    ensures words { λ r. ⌜ now (words .exit) ≡ wordsOf rule n (now (trace .entry)) (now (words .entry)) ⌝ }
+    ensures answer { λ r. ⌜ now (answer .exit) ≡ countWords (planOf rule n (now (trace .entry)) (now (words .entry))) (now (answer .entry)) ⌝ }
+{
+    put_count(counts::write_plan(rule, n, trace, words), answer);
+}
+
+#[no_mangle]
+pub extern "C" fn hedravos_check(m: u32, trace: &[u32], words: &[u32], answer: &mut [u32])
+    ensures { λ r. ⌜ now (answer .exit) ≡ countWords (checkOf m (now (trace .entry)) (now (words .entry))) (now (answer .entry)) ⌝ }
+{
+    put_count(judge::check(m, trace, words), answer);
+}
+
+#[no_mangle]
+pub extern "C" fn hedravos_better(
+    m: u32,
+    trace: &[u32],
+    first: &[u32],
+    second: &[u32],
+    answer: &mut [u32],
+)
+    ensures { λ r. ⌜ now (answer .exit) ≡ verdictWords (betterOf m (now (trace .entry)) (now (first .entry)) (now (second .entry))) (now (answer .entry)) ⌝ }
+{
+    let told = judge::verdict_numbers(judge::better(m, trace, first, second));
+    put(answer, 0, told.number);
+    put(answer, 1, told.place);
+    put(answer, 2, told.which);
+    put(answer, 3, told.faults);
+}
+
+// Of the words that Better of two hands back: which plan they are of, and how many they are.
+#[no_mangle]
+pub extern "C" fn hedravos_better_words<'a>(
+    m: u32,
+    trace: &[u32],
+    first: &'a [u32],
+    second: &'a [u32],
+    answer: &mut [u32],
+)
+    ensures { λ r. ⌜ now (answer .exit) ≡ chosenWords m (now (trace .entry)) (now (first .entry)) (now (second .entry)) (now (answer .entry)) ⌝ }
+{
+    let told = judge::verdict_numbers(judge::better(m, trace, first, second));
+    let words = judge::better_words(m, trace, first, second);
+    put(answer, 0, told.which);
+    put(answer, 1, words.len() as u32);
+}
+
+#[no_mangle]
+pub extern "C" fn hedravos_read(
+    bytes: &[u8],
+    requests: &mut [u32],
+    plan: &mut [u32],
+    answer: &mut [u32],
+)
+    ensures requests { λ r. ⌜ now (requests .exit) ≡ requestsLeft (now (bytes .entry)) (now (requests .entry)) (length (now (plan .entry))) ⌝ }
+    ensures plan { λ r. ⌜ now (plan .exit) ≡ planLeft (now (bytes .entry)) (length (now (requests .entry))) (now (plan .entry)) ⌝ }
+    ensures answer { λ r. ⌜ now (answer .exit) ≡ readWords (readOf (now (bytes .entry)) (length (now (requests .entry))) (length (now (plan .entry)))) (now (answer .entry)) ⌝ }
+{
+    let told = bundle::read_numbers(bundle::read(bytes, requests, plan));
+    put(answer, 0, told.number);
+    put(answer, 1, told.place);
+    put(answer, 2, told.n);
+    put(answer, 3, told.m);
+    put(answer, 4, told.requests);
+    put(answer, 5, told.planned);
+}
+
+#[no_mangle]
+pub extern "C" fn hedravos_write(
+    n: u32,
+    m: u32,
+    trace: &[u32],
+    plan: &[u32],
+    room: &mut [u8],
+    answer: &mut [u32],
+)
+    ensures room { λ r. ⌜ now (room .exit) ≡ roomLeft n m (now (trace .entry)) (now (plan .entry)) (now (room .entry)) ⌝ }
+    ensures answer { λ r. ⌜ now (answer .exit) ≡ writeWords (writeOf n m (now (trace .entry)) (now (plan .entry)) (length (now (room .entry)))) (now (answer .entry)) ⌝ }
+{
+    let told = bundle::write_numbers(bundle::write(n, m, trace, plan, room));
+    put(answer, 0, told.number);
+    put(answer, 1, told.place);
+    put(answer, 2, told.bytes);
+}

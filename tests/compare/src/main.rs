@@ -1,0 +1,139 @@
+//! Compares the proved program with the second program, one line for each group of cases.
+//! Names of groups may be given; without any, all are run. Ends with `N passed, M failed`.
+
+mod bundles;
+mod calls;
+mod cases;
+mod judge;
+mod lent;
+#[cfg(feature = "self-check")]
+mod mirror;
+#[cfg(feature = "records")]
+mod record_cases;
+#[cfg(feature = "records")]
+mod records;
+
+use lent::Tally;
+use std::io::Write;
+use std::process::ExitCode;
+use std::time::Instant;
+
+type Group = (&'static str, fn(&mut Tally));
+
+const GROUPS: &[Group] = &[
+    ("trial", calls::trials),
+    ("count", calls::counts),
+    ("count every size", calls::counts_every_size),
+    ("plan", calls::plans),
+    ("check", calls::checks),
+    ("better", calls::betters),
+    ("longest", calls::longest),
+    ("largest", calls::largest),
+    #[cfg(feature = "records")]
+    ("fresh", records::freshes),
+    #[cfg(feature = "records")]
+    ("run", records::runs),
+    #[cfg(feature = "records")]
+    ("long run", records::long_runs),
+    #[cfg(feature = "records")]
+    ("sound record", records::sound_records),
+    #[cfg(feature = "records")]
+    ("damaged record", records::damaged_records),
+    #[cfg(feature = "records")]
+    ("shared moment", records::shared_moments),
+    #[cfg(feature = "records")]
+    ("last request", records::last_requests),
+    ("read", bundles::reads),
+    ("cut", bundles::cuts),
+    ("damaged file", bundles::damaged_files),
+    ("random file", bundles::random_files),
+    ("write", bundles::writes),
+    ("round trip", bundles::round_trips),
+    ("long file", bundles::longest_files),
+    #[cfg(feature = "report")]
+    ("report", bundles::reports),
+];
+
+fn main() -> ExitCode {
+    let wanted: Vec<String> = std::env::args().skip(1).collect();
+    for name in &wanted {
+        if !GROUPS.iter().any(|group| group.0 == name) {
+            eprintln!("there is no group named {name}");
+            return ExitCode::from(2);
+        }
+    }
+    let mut passed = 0;
+    let mut failed = 0;
+    for &(name, group) in GROUPS {
+        if !wanted.is_empty() && !wanted.iter().any(|other| other == name) {
+            continue;
+        }
+        let tally = run(name, group);
+        passed += tally.passed;
+        failed += tally.failed;
+    }
+    println!("{passed} passed, {failed} failed");
+    if failed > 0 {
+        return ExitCode::FAILURE;
+    }
+    ExitCode::SUCCESS
+}
+
+fn run(name: &str, group: fn(&mut Tally)) -> Tally {
+    // The name comes first, so that a program that stops dead is seen to stop here.
+    print!("{name}: ");
+    let _ = std::io::stdout().flush();
+    let start = Instant::now();
+    let mut tally = Tally::default();
+    group(&mut tally);
+    println!(
+        "{} passed, {} failed, {:.1} s",
+        tally.passed,
+        tally.failed,
+        start.elapsed().as_secs_f64()
+    );
+    for failure in &tally.told {
+        println!("  {failure}");
+    }
+    tally
+}
+
+#[cfg(all(test, feature = "self-check"))]
+mod tests {
+    use super::*;
+    use std::sync::atomic::Ordering;
+
+    /// One after the other, since the mistake to make is the same for all.
+    #[test]
+    fn every_mistake_is_found() {
+        for (number, name, what) in mirror::MISTAKES {
+            mirror::MISTAKE.store(number, Ordering::Relaxed);
+            let group = GROUPS.iter().find(|group| group.0 == name).unwrap();
+            let mut tally = Tally::default();
+            (group.1)(&mut tally);
+            println!("{number} {what}: {} of {name} failed", tally.failed);
+            assert!(tally.failed > 0, "not found: {what}");
+        }
+        mirror::MISTAKE.store(0, Ordering::Relaxed);
+    }
+
+    /// Drawn records are sound, and each kind of damage mostly shows.
+    #[test]
+    fn records_are_what_they_should_be() {
+        let mut rng = cases::Rng::new(1);
+        for _ in 0..500 {
+            assert!(second::sound(&record_cases::drawn(&mut rng)));
+            assert!(second::sound(&record_cases::from_run(&mut rng)));
+        }
+        for kind in 0..record_cases::DAMAGES {
+            let mut unsound = 0;
+            for _ in 0..200 {
+                let mut record = record_cases::drawn(&mut rng);
+                record_cases::damage(&mut rng, &mut record, kind);
+                unsound += u32::from(!second::sound(&record));
+            }
+            println!("damage {kind}: {unsound} of 200 unsound");
+            assert!(unsound >= 60, "damage {kind}: {unsound} of 200");
+        }
+    }
+}

@@ -1,0 +1,474 @@
+//! The second program behind the same C functions, so that the comparison can try itself.
+//! It can be told to make one mistake; the comparison must then find it.
+
+use second::{Record, Reply, MARK};
+use std::slice::{from_raw_parts, from_raw_parts_mut};
+use std::sync::atomic::{AtomicU32, Ordering};
+
+/// The mistake to make; 0 is none.
+pub static MISTAKE: AtomicU32 = AtomicU32::new(0);
+
+fn mistake(number: u32) -> bool {
+    MISTAKE.load(Ordering::Relaxed) == number
+}
+
+/// Each mistake, the group of cases that must find it, and what it is.
+#[cfg(test)]
+pub const MISTAKES: [(u32, &str, &str); 34] = [
+    (1, "count", "a hit renews a page in FIFO"),
+    (2, "plan", "MIN drops the highest of the dead pages"),
+    (3, "plan", "the word after the plan is written"),
+    (4, "plan", "a plan is begun though there is too little room"),
+    (5, "count", "drops are counted, not faults"),
+    (
+        6,
+        "longest",
+        "the mark is looked for in a trace that is too long",
+    ),
+    (7, "check", "a plan may drop the page requested"),
+    (8, "better", "of equal plans the second is named"),
+    (9, "better", "the second plan's refusal is given"),
+    (10, "better", "a refusal hands back T words"),
+    (11, "fresh", "257 frames are taken"),
+    (12, "fresh", "a refusal hands back a record with its rule"),
+    (
+        13,
+        "damaged record",
+        "dirt past the held entries is overlooked",
+    ),
+    (
+        14,
+        "damaged record",
+        "a last request at the clock is overlooked",
+    ),
+    (15, "run", "LRU doesn't keep the earlier moment"),
+    (16, "run", "a refused Feed gives page 0, not the mark"),
+    (17, "last request", "8 comes before 4"),
+    (18, "last request", "clock 7,999 is refused"),
+    (19, "cut", "n is judged before the end of the file"),
+    (20, "cut", "9 has the place of the cut"),
+    (
+        21,
+        "read",
+        "requests are copied though the plan finds no room",
+    ),
+    (22, "write", "12 has place 0"),
+    (23, "write", "10 comes before 4"),
+    (24, "write", "a byte past the file is cleared"),
+    (25, "report", "without requests the empty plan is claimed"),
+    (26, "report", "the last line feed is missing"),
+    (27, "count", "a rule is cut to its lowest byte"),
+    (28, "longest", "8,001 requests are taken"),
+    (29, "count", "a lent trace is changed"),
+    (30, "count", "a word past the answer is written"),
+    (31, "shared moment", "a moment in two entries is overlooked"),
+    (
+        32,
+        "sound record",
+        "an entry that doesn't change is changed",
+    ),
+    (33, "long file", "T of 8,000 is refused in a file"),
+    (
+        34,
+        "count",
+        "LRU-2 remembers what a page did before it was dropped",
+    ),
+];
+
+unsafe fn list<'a, T>(start: *const T, length: usize) -> &'a [T] {
+    from_raw_parts(start, length)
+}
+
+unsafe fn lent<'a, T>(start: *mut T, length: usize) -> &'a mut [T] {
+    from_raw_parts_mut(start, length)
+}
+
+fn record_of(words: &[u32]) -> Record {
+    let mut record = second::blank();
+    record.rule = words[0];
+    record.frames = words[1];
+    record.clock = words[2];
+    record.held = words[3];
+    for frame in 0..256 {
+        let start = 4 + 4 * frame;
+        record.entries[frame].copy_from_slice(&words[start..start + 4]);
+    }
+    record
+}
+
+fn lay_out(record: &Record, words: &mut [u32]) {
+    words.copy_from_slice(&crate::record_cases::words_of(record));
+}
+
+fn put(answer: &mut [u32], reply: Reply) {
+    answer.copy_from_slice(&[reply.number, reply.place, reply.faults]);
+}
+
+#[no_mangle]
+unsafe extern "C" fn hedravos_count(
+    rule: u32,
+    n: u32,
+    trace: *const u32,
+    trace_len: usize,
+    answer: *mut u32,
+    answer_len: usize,
+) {
+    let requests = list(trace, trace_len);
+    let mut reply = second::count(rule, n, requests);
+    if mistake(1) && rule == second::FIFO {
+        reply = second::count(second::LRU, n, requests);
+    }
+    if mistake(5) && reply.number == 0 {
+        let mut plan = vec![0; trace_len];
+        second::write_plan(rule, n, requests, &mut plan);
+        reply.faults = plan.iter().filter(|&&word| word != MARK).count() as u32;
+    }
+    if mistake(6) && trace_len > 8_000 && reply.number == 3 {
+        if let Some(moment) = requests.iter().position(|&page| page == MARK) {
+            reply.number = 4;
+            reply.place = moment as u32;
+        }
+    }
+    if mistake(27) {
+        reply = second::count(rule & 255, n, requests);
+    }
+    if mistake(28) && trace_len == 8_001 {
+        reply = second::count(rule, n, &requests[..8_000]);
+    }
+    if mistake(29) && trace_len > 0 {
+        *trace.cast_mut() ^= 1;
+    }
+    if mistake(30) {
+        *answer.add(answer_len) = 0;
+    }
+    if mistake(34) && rule == second::LRU_2 && reply.number == 0 {
+        reply.faults = faults_with_long_memory(n, requests);
+    }
+    put(lent(answer, answer_len), reply);
+}
+
+/// LRU-2 as it would be with the whole past of each page: not document 01's rule.
+fn faults_with_long_memory(n: u32, requests: &[u32]) -> u32 {
+    let mut held: Vec<u32> = Vec::new();
+    let mut faults = 0;
+    for moment in 0..requests.len() {
+        let past = &requests[..moment];
+        let key = |page: u32| {
+            let mut found = (0..moment).rev().filter(|&i| past[i] == page);
+            let last = found.next();
+            (found.next(), last)
+        };
+        if held.contains(&requests[moment]) {
+            continue;
+        }
+        faults += 1;
+        if held.len() == n as usize {
+            let victim = *held.iter().min_by_key(|&&page| key(page)).unwrap();
+            held.retain(|&page| page != victim);
+        }
+        held.push(requests[moment]);
+    }
+    faults
+}
+
+#[no_mangle]
+unsafe extern "C" fn hedravos_plan(
+    rule: u32,
+    n: u32,
+    trace: *const u32,
+    trace_len: usize,
+    words: *mut u32,
+    words_len: usize,
+    answer: *mut u32,
+    answer_len: usize,
+) {
+    let requests = list(trace, trace_len);
+    let room = lent(words, words_len);
+    let reply = second::write_plan(rule, n, requests, room);
+    if mistake(2) && rule == second::MIN && reply.number == 0 {
+        // Turned round, the highest page number is the lowest.
+        let turned: Vec<u32> = requests.iter().map(|&page| MARK - 1 - page).collect();
+        second::write_plan(rule, n, &turned, room);
+        for word in &mut room[..trace_len] {
+            if *word != MARK {
+                *word = MARK - 1 - *word;
+            }
+        }
+    }
+    if mistake(3) && reply.number == 0 && words_len > trace_len {
+        room[trace_len] = MARK;
+    }
+    if mistake(4) && reply.number == 6 && words_len > 0 {
+        room[0] = MARK;
+    }
+    put(lent(answer, answer_len), reply);
+}
+
+#[no_mangle]
+unsafe extern "C" fn hedravos_check(
+    m: u32,
+    trace: *const u32,
+    trace_len: usize,
+    words: *const u32,
+    words_len: usize,
+    answer: *mut u32,
+    answer_len: usize,
+) {
+    let requests = list(trace, trace_len);
+    let plan = list(words, words_len);
+    let mut reply = second::check(m, requests, plan);
+    if mistake(7) && reply.number == 7 {
+        let moment = reply.place as usize;
+        if plan[moment] == requests[moment] {
+            reply.number = 0;
+        }
+    }
+    put(lent(answer, answer_len), reply);
+}
+
+#[no_mangle]
+unsafe extern "C" fn hedravos_better(
+    m: u32,
+    trace: *const u32,
+    trace_len: usize,
+    first: *const u32,
+    first_len: usize,
+    second: *const u32,
+    second_len: usize,
+    answer: *mut u32,
+    answer_len: usize,
+) {
+    let requests = list(trace, trace_len);
+    let one = list(first, first_len);
+    let two = list(second, second_len);
+    let mut verdict = second::better(m, requests, one, two);
+    let other = second::check(m, requests, two);
+    if mistake(8) && verdict.number == 0 && other.number == 0 && other.faults == verdict.faults {
+        verdict.which = 2;
+    }
+    if mistake(9) && verdict.number > 4 {
+        verdict.number = other.number;
+        verdict.place = other.place;
+    }
+    let words = [verdict.number, verdict.place, verdict.which, verdict.faults];
+    lent(answer, answer_len).copy_from_slice(&words);
+}
+
+#[no_mangle]
+unsafe extern "C" fn hedravos_better_words(
+    m: u32,
+    trace: *const u32,
+    trace_len: usize,
+    first: *const u32,
+    first_len: usize,
+    second: *const u32,
+    second_len: usize,
+    answer: *mut u32,
+    answer_len: usize,
+) {
+    let requests = list(trace, trace_len);
+    let one = list(first, first_len);
+    let two = list(second, second_len);
+    let (mut which, mut length) = second::better_words(m, requests, one, two);
+    if mistake(10) && which == 0 {
+        which = 1;
+        length = trace_len;
+    }
+    lent(answer, answer_len).copy_from_slice(&[which, length as u32]);
+}
+
+#[no_mangle]
+unsafe extern "C" fn hedravos_fresh(
+    rule: u32,
+    n: u32,
+    record: *mut u32,
+    record_len: usize,
+    answer: *mut u32,
+    answer_len: usize,
+) {
+    let (mut number, place, mut made) = second::fresh(rule, n);
+    if mistake(11) && number == 2 && n == 257 {
+        number = 0;
+    }
+    if mistake(12) && number != 0 {
+        made.rule = rule;
+    }
+    lay_out(&made, lent(record, record_len));
+    lent(answer, answer_len).copy_from_slice(&[number, place]);
+}
+
+#[no_mangle]
+unsafe extern "C" fn hedravos_sound(
+    record: *const u32,
+    record_len: usize,
+    answer: *mut u32,
+    answer_len: usize,
+) {
+    let mut judged = record_of(list(record, record_len));
+    if mistake(13) && judged.held <= 256 {
+        judged.entries[judged.held as usize..].fill([MARK; 4]);
+    }
+    if mistake(14) && judged.clock < 8_000 {
+        judged.clock += 1;
+    }
+    let mut sound = second::sound(&judged);
+    if mistake(31) && judged.held == 2 {
+        // Each entry by itself is judged, the two never side by side.
+        let mut one = judged;
+        one.held = 1;
+        one.entries[1] = [MARK; 4];
+        let mut two = one;
+        two.entries[0] = judged.entries[1];
+        sound = second::sound(&one) && second::sound(&two);
+    }
+    lent(answer, answer_len).copy_from_slice(&[u32::from(sound)]);
+}
+
+#[no_mangle]
+unsafe extern "C" fn hedravos_feed(
+    record: *const u32,
+    record_len: usize,
+    page: u32,
+    next: *mut u32,
+    next_len: usize,
+    answer: *mut u32,
+    answer_len: usize,
+) {
+    let given = record_of(list(record, record_len));
+    let mut fed = second::feed(&given, page);
+    if mistake(15) && given.rule == second::LRU && fed.number == 0 {
+        for frame in 0..256 {
+            if fed.next.entries[frame][0] == given.entries[frame][0] {
+                fed.next.entries[frame][3] = given.entries[frame][3];
+            }
+        }
+    }
+    if mistake(16) && fed.number != 0 {
+        fed.page = 0;
+    }
+    if mistake(17) && fed.number == 4 && given.clock == 8_000 {
+        fed.number = 8;
+    }
+    if mistake(18) && fed.number == 0 && given.clock == 7_999 {
+        fed.number = 8;
+        fed.next = given;
+    }
+    if mistake(32) && fed.kind == 2 && fed.next.entries[0][3] != MARK {
+        fed.next.entries[0][1] = fed.next.entries[0][3];
+    }
+    lay_out(&fed.next, lent(next, next_len));
+    let words = [fed.number, fed.place, fed.kind, fed.page];
+    lent(answer, answer_len).copy_from_slice(&words);
+}
+
+#[cfg(feature = "own-record")]
+#[no_mangle]
+unsafe extern "C" fn hedravos_feed_own(
+    record: *mut u32,
+    record_len: usize,
+    page: u32,
+    answer: *mut u32,
+    answer_len: usize,
+) {
+    let words = lent(record, record_len);
+    let mut own = record_of(words);
+    let outcome = second::feed_own(&mut own, page);
+    lay_out(&own, words);
+    let words = [outcome.number, outcome.place, outcome.kind, outcome.page];
+    lent(answer, answer_len).copy_from_slice(&words);
+}
+
+#[no_mangle]
+unsafe extern "C" fn hedravos_read(
+    bytes: *const u8,
+    bytes_len: usize,
+    requests: *mut u32,
+    requests_len: usize,
+    plan: *mut u32,
+    plan_len: usize,
+    answer: *mut u32,
+    answer_len: usize,
+) {
+    let file = list(bytes, bytes_len);
+    let trace = lent(requests, requests_len);
+    let words = lent(plan, plan_len);
+    let mut reply = second::read_bundle(file, trace, words);
+    if mistake(19) && reply.number == 9 && bytes_len >= 8 {
+        let n = u32::from_le_bytes([file[4], file[5], file[6], file[7]]);
+        // The cut files all have a good n, so a larger one stands for a bad one.
+        if n > 3 {
+            reply.number = 2;
+            reply.place = 4;
+        }
+    }
+    if mistake(20) && reply.number == 9 {
+        reply.place = bytes_len as u32;
+    }
+    if mistake(21) && reply.number == 6 && requests_len > 0 {
+        trace[0] = u32::from_le_bytes([file[16], file[17], file[18], file[19]]);
+    }
+    if mistake(33) && reply.t == 8_000 {
+        reply.number = 10;
+        reply.place = 12;
+    }
+    let words = [
+        reply.number,
+        reply.place,
+        reply.n,
+        reply.m,
+        reply.t,
+        reply.plan_count,
+    ];
+    lent(answer, answer_len).copy_from_slice(&words);
+}
+
+#[no_mangle]
+unsafe extern "C" fn hedravos_write(
+    n: u32,
+    m: u32,
+    trace: *const u32,
+    trace_len: usize,
+    plan: *const u32,
+    plan_len: usize,
+    room: *mut u8,
+    room_len: usize,
+    answer: *mut u32,
+    answer_len: usize,
+) {
+    let requests = list(trace, trace_len);
+    let words = list(plan, plan_len);
+    let file = lent(room, room_len);
+    let mut reply = second::write_bundle(n, m, requests, words, file);
+    if mistake(22) && reply.number == 12 {
+        reply.place = 0;
+    }
+    if mistake(23) && reply.number == 4 && plan_len != 0 && plan_len != trace_len {
+        reply.number = 10;
+        reply.place = 0;
+    }
+    if mistake(24) && reply.number == 0 && room_len > reply.bytes as usize {
+        file[reply.bytes as usize] = 0;
+    }
+    lent(answer, answer_len).copy_from_slice(&[reply.number, reply.place, reply.bytes]);
+}
+
+#[no_mangle]
+unsafe extern "C" fn hedravos_report(
+    bytes: *const u8,
+    bytes_len: usize,
+    text: *mut u8,
+    text_len: usize,
+    answer: *mut u32,
+    answer_len: usize,
+) {
+    let mut lines = second::report(list(bytes, bytes_len));
+    if mistake(25) && lines.starts_with(b"requests 0\n") {
+        lines.truncate(lines.len() - 5);
+        lines.extend_from_slice(b"1 0\n");
+    }
+    if mistake(26) {
+        lines.pop();
+    }
+    lent(text, text_len)[..lines.len()].copy_from_slice(&lines);
+    lent(answer, answer_len).copy_from_slice(&[lines.len() as u32]);
+}

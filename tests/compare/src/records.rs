@@ -1,0 +1,221 @@
+//! Comparison of Fresh, Feed and soundness, each record as 1,028 lent words.
+//! With the feature own-record, the thin form of Feed is fed the same requests.
+
+use crate::cases::{self, Rng};
+use crate::judge::{self, RECORD_WORDS};
+use crate::lent::{answer, words, Tally};
+use crate::record_cases::{self, words_of, DAMAGES};
+use second::{Record, MARK};
+
+fn compare_fresh(tally: &mut Tally, rule: u32, n: u32) {
+    let (number, place, record) = second::fresh(rule, n);
+    let mut theirs = answer(2);
+    let mut their_record = answer(RECORD_WORDS);
+    judge::fresh(rule, n, their_record.part_mut(), theirs.part_mut());
+    let right = theirs.is(&[number, place]) && their_record.is(&words_of(&record));
+    tally.case(right, || {
+        format!(
+            "fresh rule {rule} n {n}: {:?}, not {number} {place}; record {}",
+            theirs.part(),
+            difference(their_record.part(), &words_of(&record))
+        )
+    });
+}
+
+fn compare_sound(tally: &mut Tally, record: &Record) {
+    let ours = u32::from(second::sound(record));
+    let lent = words(&words_of(record));
+    let mut theirs = answer(1);
+    judge::sound(lent.part(), theirs.part_mut());
+    let right = theirs.is(&[ours]) && lent.is(&words_of(record));
+    tally.case(right, || {
+        format!("sound {}: {:?}, not {ours}", tell(record), theirs.part())
+    });
+}
+
+/// Feeds one page to both, and answers the second program's next record.
+fn compare_feed(tally: &mut Tally, record: &Record, page: u32) -> Record {
+    let ours = second::feed(record, page);
+    let our_answer = [ours.number, ours.place, ours.kind, ours.page];
+    let lent = words(&words_of(record));
+    let mut next = answer(RECORD_WORDS);
+    let mut theirs = answer(4);
+    judge::feed(lent.part(), page, next.part_mut(), theirs.part_mut());
+    let our_next = words_of(&ours.next);
+    let kept = lent.is(&words_of(record));
+    let right = theirs.is(&our_answer) && next.is(&our_next) && kept;
+    tally.case(right, || {
+        format!(
+            "feed page {page} to {}: {:?}, not {our_answer:?}; next record {}",
+            tell(record),
+            theirs.part(),
+            difference(next.part(), &our_next)
+        )
+    });
+    compare_own(tally, record, page);
+    ours.next
+}
+
+#[cfg(feature = "own-record")]
+fn compare_own(tally: &mut Tally, record: &Record, page: u32) {
+    let mut our_record = *record;
+    let ours = second::feed_own(&mut our_record, page);
+    let ours = [ours.number, ours.place, ours.kind, ours.page];
+    let mut lent = words(&words_of(record));
+    let mut theirs = answer(4);
+    judge::feed_own(lent.part_mut(), page, theirs.part_mut());
+    let right = theirs.is(&ours) && lent.is(&words_of(&our_record));
+    tally.case(right, || {
+        format!(
+            "own record, page {page} to {}: {:?}, not {ours:?}; record {}",
+            tell(record),
+            theirs.part(),
+            difference(lent.part(), &words_of(&our_record))
+        )
+    });
+}
+
+#[cfg(not(feature = "own-record"))]
+fn compare_own(_tally: &mut Tally, _record: &Record, _page: u32) {}
+
+fn tell(record: &Record) -> String {
+    let some = &record.entries[..(record.held as usize).min(6)];
+    format!(
+        "rule {} frames {} clock {} held {} entries {some:?}",
+        record.rule, record.frames, record.clock, record.held
+    )
+}
+
+/// The first word in which two records differ.
+fn difference(theirs: &[u32], ours: &[u32]) -> String {
+    for place in 0..ours.len() {
+        if theirs[place] != ours[place] {
+            return format!("word {place}: {}, not {}", theirs[place], ours[place]);
+        }
+    }
+    "the same".to_string()
+}
+
+pub fn freshes(tally: &mut Tally) {
+    for rule in 0..=6 {
+        for n in 0..=258 {
+            compare_fresh(tally, rule, n);
+        }
+    }
+    for rule in [1, 2, 4, 257, 65_540, MARK] {
+        for n in [512, 65_537, 1 << 31, MARK] {
+            compare_fresh(tally, rule, n);
+        }
+    }
+}
+
+fn run(tally: &mut Tally, rule: u32, n: u32, trace: &[u32]) {
+    let (_, _, mut record) = second::fresh(rule, n);
+    for &page in trace {
+        record = compare_feed(tally, &record, page);
+    }
+    compare_sound(tally, &record);
+}
+
+pub fn runs(tally: &mut Tally) {
+    let mut rng = Rng::new(201);
+    for case in 0..300 {
+        let rule = [1, 2, 4][case % 3];
+        let n = rng.between(1, 9) as u32;
+        let t = cases::length(&mut rng, 70);
+        let trace = cases::lent_trace(&mut rng, t, n);
+        run(tally, rule, n, &trace);
+    }
+}
+
+/// Runs to the last request and past it, with few frames; shorter ones with all 256.
+pub fn long_runs(tally: &mut Tally) {
+    let mut rng = Rng::new(202);
+    for rule in [1, 2, 4] {
+        let trace = cases::trace(&mut rng, 8_002, 7);
+        run(tally, rule, 7, &trace);
+        let trace: Vec<u32> = (0..900).map(|_| rng.below(400) as u32).collect();
+        run(tally, rule, 256, &trace);
+    }
+}
+
+/// Sound records that no run reaches, and some that a run does.
+pub fn sound_records(tally: &mut Tally) {
+    let mut rng = Rng::new(203);
+    for case in 0..6_000 {
+        let record = if case % 6 == 0 {
+            record_cases::from_run(&mut rng)
+        } else {
+            record_cases::drawn(&mut rng)
+        };
+        compare_sound(tally, &record);
+        let page = record_cases::page(&mut rng, &record);
+        let next = compare_feed(tally, &record, page);
+        compare_sound(tally, &next);
+    }
+}
+
+/// Each kind of damage, on drawn records and on records of runs.
+pub fn damaged_records(tally: &mut Tally) {
+    let mut rng = Rng::new(204);
+    for kind in 0..DAMAGES {
+        for case in 0..300 {
+            let mut record = if case % 3 == 0 {
+                record_cases::from_run(&mut rng)
+            } else {
+                record_cases::drawn(&mut rng)
+            };
+            record_cases::damage(&mut rng, &mut record, kind);
+            compare_sound(tally, &record);
+            let page = record_cases::page(&mut rng, &record);
+            compare_feed(tally, &record, page);
+        }
+    }
+}
+
+/// Every pair of words in which two entries might share a moment, one pair at a time.
+pub fn shared_moments(tally: &mut Tally) {
+    for rule in [1, 2, 4] {
+        for first in [[1, 4, 2], [1, 4, 1], [4, 4, MARK]] {
+            for second in [[3, 9, 5], [3, 9, 3], [7, 7, MARK]] {
+                for here in 0..3 {
+                    for moment in 0..12 {
+                        let mut record = second::blank();
+                        record.rule = rule;
+                        record.frames = 2;
+                        record.clock = 11;
+                        record.held = 2;
+                        let mut changed = second;
+                        changed[here] = moment;
+                        record.entries[0] = [50, first[0], first[1], first[2]];
+                        record.entries[1] = [60, changed[0], changed[1], changed[2]];
+                        compare_sound(tally, &record);
+                        compare_feed(tally, &record, 70);
+                    }
+                }
+            }
+        }
+    }
+}
+
+/// Clocks around the last request, empty caches included, and the order 5, 4, 8.
+pub fn last_requests(tally: &mut Tally) {
+    for rule in [1, 2, 3, 4] {
+        for clock in [0, 1, 7_998, 7_999, 8_000, 8_001, MARK] {
+            for held in [0, 1, 2] {
+                let mut record = second::blank();
+                record.rule = rule;
+                record.frames = 2;
+                record.clock = clock;
+                record.held = held;
+                for frame in 0..held {
+                    record.entries[frame as usize] = [50 + frame, frame, frame, MARK];
+                }
+                for page in [50, 51, 52, MARK - 1, MARK] {
+                    compare_sound(tally, &record);
+                    compare_feed(tally, &record, page);
+                }
+            }
+        }
+    }
+}
