@@ -1,10 +1,10 @@
 -- Laws of bytes put into a room: one byte, some bytes behind others, and a whole text from the front of the room.
 -- Assumes nothing.
 use mathlib.Core.Path.{_≡_, refl, sym, ap, ap₂, subst, _∙_}
-use mathlib.Core.List.{List, [], _∷_, _++_, append-assoc, append-nil}
-use Prim.Native.Nat.{ℕ, zero, suc, _+_, _/_, _%_, _≤_, _<_}
+use mathlib.Core.List.{List, [], _∷_, _++_}
+use Prim.Native.Nat.{ℕ, suc, _+_, _/_, _%_, _≤_, _<_}
 use native.Mathlib.Omega.{arith}
-use lib.ListN.{length, getD, take, drop, set, length-append, length-set}
+use lib.ListN.{length, getD, take, set, length-append, length-set}
 use lib.Seq.{take-suc, append-snoc, set-at, set-out, drop-nil, take-nil}
 use borrow.Author.Tests.{lt-ltb, le-ltb}
 use Rattle.paging.specs.Services.{laid}

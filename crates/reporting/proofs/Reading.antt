@@ -10,7 +10,7 @@ use Rattle.paging.specs.Calls.{requestLimit, gate}
 use Rattle.paging.specs.declared.Gate.the-variants.{Open}
 use Rattle.paging.specs.declared.Refusal.{Refusal}
 use Rattle.bundle.specs.Bytes.{wordsAt}
-use Rattle.bundle.specs.Reading.{requestCount, planPlace, planCount, requestsIn, planIn, sizesOf, readTests, readOf, requestsLeft, planLeft}
+use Rattle.bundle.specs.Reading.{requestCount, planPlace, planCount, requestsIn, planIn, readTests, readOf, requestsLeft, planLeft}
 use Rattle.bundle.specs.declared.Sizes.{Sizes}
 use Rattle.bundle.specs.declared.ReadAnswer.{ReadAnswer}
 use Rattle.bundle.specs.declared.ReadAnswer.the-variants.{Bundle, Refused}
