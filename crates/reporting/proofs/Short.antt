@@ -1,0 +1,102 @@
+-- No report is longer than 256 bytes: the room that the program lends is never too small.
+-- Assumes nothing.
+use mathlib.Core.Bool.{Bool, true, false}
+use mathlib.Core.List.{List, [], _∷_, _++_}
+use Prim.Native.Nat.{ℕ, _+_, _/_, _%_, _≤_}
+use native.Mathlib.Omega.{arith}
+use native.Mathlib.Nat.{le-trans}
+use lib.Dec.{eqb, ltb}
+use lib.ListN.{length, length-append}
+use Rattle.paging.specs.Lists.{pick}
+use Rattle.paging.specs.Calls.{requestLimit}
+use Rattle.paging.specs.Refusals.{table}
+use Rattle.paging.specs.declared.Refusal.{Refusal}
+use Rattle.paging.specs.declared.Answer.{Answer}
+use Rattle.paging.specs.declared.Answer.the-variants.{Faults, Refused}
+use Rattle.calls.specs.Answers.{answerNumbers}
+use Rattle.counts.specs.Counts.{countOf}
+use Rattle.judge.specs.Check.{checkOf}
+use Rattle.bundle.specs.Reading.{readOf, requestsIn, planIn}
+use Rattle.bundle.specs.declared.Sizes.{Sizes}
+use Rattle.bundle.specs.declared.ReadAnswer.{ReadAnswer}
+use Rattle.bundle.specs.declared.ReadAnswer.the-variants as read
+use Rattle.reporting.specs.Report.{digitAt, decimal, requestsWord, claimWord, noneWord, pair, refusedLine, line, claimed, claimLine, rulesText, linesOf, textBy, reportOf}
+
+abbrev faultsIn : ℕ → ℕ → List ℕ → ℕ
+faultsIn rule n trace = answerNumbers (countOf rule n trace) .faults
+
+joined : (xs ys : List ℕ) (a b : ℕ) → length xs ≤ a → length ys ≤ b → length (xs ++ ys) ≤ a + b
+joined xs ys a b h k = omega (arith, length-append xs ys)
+
+digit-short : (x power : ℕ) → length (digitAt x power) ≤ 1
+unfolding digitAt
+digit-short x power = go (ltb x power)
+  where
+    go : (b : Bool) → length (pick b [] ((48 + x / power % 10) ∷ [])) ≤ 1
+    go true = omega arith
+    go false = omega arith
+
+decimal-short : (x : ℕ) → length (decimal x) ≤ 10
+unfolding decimal
+decimal-short x =
+    simp length-append
+    (omega (
+      arith,
+      digit-short x 1000000000,
+      digit-short x 100000000,
+      digit-short x 10000000,
+      digit-short x 1000000,
+      digit-short x 100000,
+      digit-short x 10000,
+      digit-short x 1000,
+      digit-short x 100,
+      digit-short x 10,
+    ))
+
+pair-short : (x : ℕ) (between : List ℕ) (y : ℕ) → length (pair x between y) ≤ 21 + length between
+pair-short x between y = simp length-append (omega (arith, decimal-short x, decimal-short y))
+
+line-short : (name : List ℕ) (frames faults : ℕ) → length (line name frames faults) ≤ 22 + length name
+line-short name frames faults = omega (arith, length-append name (pair frames (32 ∷ []) faults), pair-short frames (32 ∷ []) faults)
+
+refused-short : (refusal : Refusal) → length (refusedLine refusal) ≤ 33
+refused-short refusal = omega (arith, pair-short (table refusal .number) (32 ∷ 97 ∷ 116 ∷ 32 ∷ []) (table refusal .place))
+
+claimed-short : (m : ℕ) (answer : Answer) → length (claimed m answer) ≤ 39
+claimed-short m (Faults faults) = omega (arith, line-short claimWord m faults)
+claimed-short m (Refused refusal) = omega (arith, refused-short refusal)
+
+claim-short : (sizes : Sizes) (trace plan : List ℕ) → length (claimLine sizes trace plan) ≤ 39
+claim-short sizes trace plan = go (eqb (sizes .planned) 0)
+  where
+    go : (b : Bool) → length (pick b (claimWord ++ noneWord) (claimed (sizes .m) (checkOf (sizes .m) trace plan))) ≤ 39
+    go true = omega arith
+    go false = claimed-short (sizes .m) (checkOf (sizes .m) trace plan)
+
+rules-short : (sizes : Sizes) (trace : List ℕ) → length (rulesText sizes trace) ≤ 132
+rules-short sizes trace =
+    simp length-append
+    (omega (
+      arith,
+      decimal-short (sizes .n),
+      decimal-short (sizes .m),
+      decimal-short (faultsIn 1 (sizes .n) trace),
+      decimal-short (faultsIn 2 (sizes .n) trace),
+      decimal-short (faultsIn 3 (sizes .n) trace),
+      decimal-short (faultsIn 4 (sizes .n) trace),
+      decimal-short (faultsIn 3 (sizes .m) trace),
+    ))
+
+lines-short : (sizes : Sizes) (trace plan : List ℕ) → length (linesOf sizes trace plan) ≤ 191
+lines-short sizes trace plan =
+    let first = requestsWord ++ decimal (sizes .requests) ++ (10 ∷ []) in
+    let f : length first ≤ 20 = simp length-append (omega (arith, decimal-short (sizes .requests))) in
+    joined (first ++ rulesText sizes trace) (claimLine sizes trace plan) 152 39 (joined first (rulesText sizes trace) 20 132 f (rules-short sizes trace)) (claim-short sizes trace plan)
+
+text-short : (answer : ReadAnswer) (trace plan : List ℕ) → length (textBy answer trace plan) ≤ 256
+text-short (read.Bundle sizes) trace plan = le-trans (lines-short sizes trace plan) (omega arith)
+text-short (read.Refused refusal) trace plan = le-trans (refused-short refusal) (omega arith)
+
+pub report-short : (file : List ℕ) → length (reportOf file) ≤ 256
+unfolding reportOf
+report-short file = text-short (readOf file requestLimit requestLimit) (requestsIn file) (planIn file)
