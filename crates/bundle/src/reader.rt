@@ -104,7 +104,7 @@ pub fn word_from(file: &[u8], at: usize) -> Word
 
 // The words from a byte of a file on, by a reader.
 pub fn section_from(file: &[u8], at: usize, count: usize, out: &mut [u32]) -> usize
-    ensures { λ k. ⌜ (k ≡ wordsHeld (now (file .entry)) at count (length (now (out .entry)))) × (now (out .exit) ≡ sectionOver (now (file .entry)) at count (now (out .entry))) ⌝ }
+    ensures { λ n. ⌜ (n ≡ wordsHeld (now (file .entry)) at count (length (now (out .entry)))) × (now (out .exit) ≡ sectionOver (now (file .entry)) at count (now (out .entry))) ⌝ }
 {
     section(skip(new(file), at), count, out)
 }
