@@ -109,6 +109,14 @@ fn words_at(file: &[u8], at: usize, count: usize, out: &mut [u32])
     }
 }
 
+// The same, by a reader.
+fn numbers_at(file: &[u8], at: usize, count: usize, out: &mut [u32])
+    requires { ⌜ (at + 4 * count ≤ length (now file)) × (count ≤ length (now out)) ⌝ }
+    ensures { λ r. ⌜ now (out .exit) ≡ wordsAt (now (file .entry)) at count ++ drop count (now (out .entry)) ⌝ }
+{
+    reader::section_from(file, at, count, out);
+}
+
 // The first moment that requests the mark; the number of requests, if none does.
 fn mark_at(file: &[u8], requests: usize) -> usize
     requires { ⌜ 16 + 4 * requests ≤ length (now file) ⌝ }
@@ -256,8 +264,8 @@ pub fn read(file: &[u8], requests: &mut [u32], plan: &mut [u32]) -> ReadAnswer
             let count = number_at(file, 12);
             let at = 16 + 4 * (count as usize);
             let planned = number_at(file, at);
-            words_at(file, 16, count as usize, requests);
-            words_at(file, at + 4, planned as usize, plan);
+            numbers_at(file, 16, count as usize, requests);
+            numbers_at(file, at + 4, planned as usize, plan);
             ReadAnswer::Bundle(Sizes {
                 n: number_at(file, 4),
                 m: number_at(file, 8),

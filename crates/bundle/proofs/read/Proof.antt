@@ -55,23 +55,23 @@ add-at c = search needs
 number-at-requires-2 : tie.Need-number-at-requires-2
 number-at-requires-2 c κs = omega (arith, file-is (c .before) .form .whole, c .number-at .ensures)
 
-cast-words-at : tie.Need-cast-words-at
-cast-words-at c = search needs
+cast-numbers-at : tie.Need-cast-numbers-at
+cast-numbers-at c = search needs
 
-words-at-requires : tie.Need-words-at-requires
-words-at-requires c κs =
+numbers-at-requires : tie.Need-numbers-at-requires
+numbers-at-requires c κs =
     let w = c .before .before in
     let a = file-is (w .before) in
     (omega (arith, a .form .whole, w .number-at .ensures), omega (arith, a .room, w .number-at .ensures))
 
-add-words-at : tie.Need-add-words-at
-add-words-at c = search needs
+add-numbers-at : tie.Need-add-numbers-at
+add-numbers-at c = search needs
 
-cast-words-at-2 : tie.Need-cast-words-at-2
-cast-words-at-2 c = search needs
+cast-numbers-at-2 : tie.Need-cast-numbers-at-2
+cast-numbers-at-2 c = search needs
 
-words-at-requires-2 : tie.Need-words-at-requires-2
-words-at-requires-2 c κs =
+numbers-at-requires-2 : tie.Need-numbers-at-requires-2
+numbers-at-requires-2 c κs =
     let p = c .before .before .before .before .before in
     let w = p .before in
     let a = file-is (w .before) in
@@ -105,8 +105,8 @@ returns-2 c =
     let file = s .args .file .now in
     let d = read-done file (s .args .requests .now) (s .args .plan .now) (open-gate (w .before)) in (
       rw (c .before .number-at3 .ensures, c .number-at4 .ensures, planned-is p, w .number-at .ensures) (d .0),
-      x .words-at .ensures ∙ ap (λ (t : ℕ). wordsAt file 16 t ++ drop t (s .args .requests .now)) (w .number-at .ensures) ∙ d .1,
-      y .words-at2 .ensures ∙ ap₂ (λ (t k : ℕ). wordsAt file (16 + 4 * t + 4) k ++ drop k (s .args .plan .now)) (w .number-at .ensures) (planned-is p) ∙ d .2,
+      x .numbers-at .ensures ∙ ap (λ (t : ℕ). wordsAt file 16 t ++ drop t (s .args .requests .now)) (w .number-at .ensures) ∙ d .1,
+      y .numbers-at2 .ensures ∙ ap₂ (λ (t k : ℕ). wordsAt file (16 + 4 * t + 4) k ++ drop k (s .args .plan .now)) (w .number-at .ensures) (planned-is p) ∙ d .2,
     )
 
 pub read-spec : {M : Type 1} → statement M
@@ -121,11 +121,11 @@ read-spec =
     mul-at
     add-at
     number-at-requires-2
-    cast-words-at
-    words-at-requires
-    add-words-at
-    cast-words-at-2
-    words-at-requires-2
+    cast-numbers-at
+    numbers-at-requires
+    add-numbers-at
+    cast-numbers-at-2
+    numbers-at-requires-2
     number-at-requires-3
     number-at-requires-4
     returns
