@@ -1,2 +1,3 @@
 -- What the contracts of the exported services cite.
 pub mod Words
+pub mod Records

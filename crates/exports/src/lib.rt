@@ -1,5 +1,7 @@
 // The services of document 01 for callers outside: numbers, and lists as a pointer and a length.
 // An answer goes to the front of lent words, number by number; where the words end, the rest is left out. Nothing is asked of a caller.
+pub mod records;
+
 ghost use mathlib.Core.Path.{_≡_};
 ghost use lib.ListN.{length, set};
 ghost use Rattle.counts.specs.Counts.{countOf, planOf, wordsOf};
@@ -9,6 +11,14 @@ ghost use Rattle.bundle.specs.Reading.{readOf, requestsLeft, planLeft};
 ghost use Rattle.bundle.specs.Writing.{writeOf, roomLeft};
 ghost use Rattle.exports.specs.Words.{countWords, verdictWords, chosenWords, readWords, writeWords};
 use paging::Answer;
+
+// Document 01's numbers of Feed's reply. What a reply lacks is 0, its page the mark.
+struct ReplyNumbers {
+    number: u32,
+    place: u32,
+    kind: u32,
+    page: u32,
+}
 
 // Puts a word where there is one.
 fn put(words: &mut [u32], at: usize, word: u32)

@@ -1,0 +1,29 @@
+-- `exports::records::hedravos_sound` meets its contract.
+-- Assumes nothing.
+use borrow.Author.Needs.{needs}
+use mathlib.Core.Path.{refl}
+use Rattle.exports.proofs.records.hedravos_sound.Statement.{statement}
+use Rattle.exports.proofs.records.hedravos_sound.Tie as tie
+
+record-of-requires : tie.Need-record-of-requires
+record-of-requires c κs = search needs
+
+sound-requires : tie.Need-sound-requires
+sound-requires c κs = search needs
+
+flag-requires : tie.Need-flag-requires
+flag-requires c κs = search needs
+
+put-requires : tie.Need-put-requires
+put-requires c κs = search needs
+
+same-length : tie.Need-same-length
+same-length c = search needs
+
+returns : tie.Need-returns
+returns c = rw (c .before .before .put .ensures, c .before .before .before .flag .ensures, c .before .before .before .before .sound .ensures, c .before .before .before .before .before .record-of .ensures) refl
+
+pub hedravos-sound-spec : {M : Type 1} → statement M
+hedravos-sound-spec =
+    tie.close
+    (tie.spec record-of-requires sound-requires flag-requires put-requires same-length returns)
