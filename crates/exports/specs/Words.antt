@@ -2,7 +2,7 @@
 -- Assumes nothing.
 use mathlib.Core.List.{List, [], _∷_}
 use Prim.Native.Nat.{ℕ, _+_}
-use lib.ListN.{set, length}
+use lib.ListN.{set, length, take}
 use Rattle.paging.specs.declared.Answer.{Answer}
 use Rattle.calls.specs.Answers.{answerNumbers}
 use Rattle.judge.specs.declared.Verdict.{Verdict}
@@ -45,3 +45,7 @@ readWords a =
 -- number, place, bytes
 abbrev pub writeWords : WriteAnswer → List ℕ → List ℕ
 writeWords a = putFrom 0 (writeNumbers a .number ∷ writeNumbers a .place ∷ writeNumbers a .bytes ∷ [])
+
+-- how many bytes of a text a room of so many holds
+abbrev pub textWords : List ℕ → ℕ → List ℕ → List ℕ
+textWords text room = putFrom 0 (length (take room text) ∷ [])

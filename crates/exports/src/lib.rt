@@ -9,7 +9,9 @@ ghost use Rattle.judge.specs.Check.{checkOf};
 ghost use Rattle.judge.specs.Better.{betterOf};
 ghost use Rattle.bundle.specs.Reading.{readOf, requestsLeft, planLeft};
 ghost use Rattle.bundle.specs.Writing.{writeOf, roomLeft};
-ghost use Rattle.exports.specs.Words.{countWords, verdictWords, chosenWords, readWords, writeWords};
+ghost use Rattle.paging.specs.Services.{laid};
+ghost use Rattle.reporting.specs.Report.{reportOf};
+ghost use Rattle.exports.specs.Words.{countWords, verdictWords, chosenWords, readWords, writeWords, textWords};
 use paging::Answer;
 
 // Document 01's numbers of Feed's reply. What a reply lacks is 0, its page the mark.
@@ -136,4 +138,14 @@ pub extern "C" fn hedravos_write(
     put(answer, 0, told.number);
     put(answer, 1, told.place);
     put(answer, 2, told.bytes);
+}
+
+// The report's text at the front of the room, and how many bytes of it there are.
+#[no_mangle]
+pub extern "C" fn hedravos_report(file: &[u8], room: &mut [u8], answer: &mut [u32])
+    ensures room { λ r. ⌜ now (room .exit) ≡ laid (reportOf (now (file .entry))) (now (room .entry)) ⌝ }
+    ensures answer { λ r. ⌜ now (answer .exit) ≡ textWords (reportOf (now (file .entry))) (length (now (room .entry))) (now (answer .entry)) ⌝ }
+{
+    let bytes = reporting::report(file, room) as u32;
+    put(answer, 0, bytes);
 }
