@@ -6,7 +6,8 @@ use Prim.Native.Nat.{ℕ, zero, suc, _+_, _*_, _/_, _%_, _<_}
 use native.Mathlib.Omega.{arith}
 use lib.ListN.{length}
 use lib.Seq.{getD-append-add}
-use Rattle.bundle.specs.Bytes.{wordAt, wordsAt, bytesOf, bytesIn, section}
+use Rattle.words.specs.Bytes.{wordAt, wordsAt}
+use Rattle.bundle.specs.Bytes.{bytesOf, bytesIn, section}
 use Rattle.bundle.specs.Writing.{fileOf}
 
 -- every number of a list is below a bound: 256 for bytes, 4,294,967,296 for words

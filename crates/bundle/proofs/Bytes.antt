@@ -7,23 +7,19 @@ use Prim.Native.Nat.{ℕ, zero, suc, _+_, _*_, _-_, _/_, _%_, _≤_, _<_}
 use native.Mathlib.Numerals.{add-one}
 use native.Mathlib.Omega.{arith}
 use lib.ListN.{length, getD, take, drop, set, length-append, length-take, length-drop, take-append-drop}
-use lib.Seq.{length-take-le, take-suc, drop-cons, append-snoc, take-at, drop-append-add, drop-drop, set-at, sets-eq}
-use borrow.Author.Tests.{lt-ltb, le-ltb, eq-eqb, ne-eqb}
+use lib.Seq.{length-take-le, take-suc, take-at, drop-append-add, drop-drop, sets-eq}
+use borrow.Author.Tests.{eq-eqb, ne-eqb}
 use Rattle.paging.specs.Rules.{mark}
 use Rattle.paging.specs.Plans.{mem, placeOf}
 use Rattle.paging.specs.Calls.{marked, firstMark}
 use Rattle.paging.specs.Services.{laid}
 use Rattle.paging.proofs.Writing.{laid-whole}
 use Rattle.calls.proofs.Search.{found-mem, lost-mem}
-use Rattle.bundle.specs.Bytes.{wordAt, wordIn, wordsAt, bytesOf, bytesIn, section, over}
-use Rattle.bundle.specs.declared.Word.the-variants.{Is, Missing}
+use Rattle.words.specs.Bytes.{wordAt, wordsAt}
+use Rattle.words.proofs.Bytes.{length-words}
+use Rattle.bundle.specs.Bytes.{bytesOf, bytesIn, section, over}
 
 -- ---- how many
-
-pub length-words : (file : List ℕ) (at count : ℕ) → length (wordsAt file at count) ≡ count
-unfolding wordsAt
-length-words file at zero = refl
-length-words file at (suc count) = ap suc (length-words file (at + 4) count)
 
 pub length-word : (word : ℕ) → length (bytesOf word) ≡ 4
 unfolding bytesOf
@@ -38,24 +34,7 @@ pub length-section : (words : List ℕ) → length (section words) ≡ 4 + 4 * l
 unfolding section
 length-section words = omega (arith, length-bytes words)
 
--- ---- a word or none
-
-pub word-missing : (file : List ℕ) (at : ℕ) → length file < at + 4 → wordIn file at ≡ Missing
-unfolding wordIn
-word-missing file at h = rw (lt-ltb _ _ h)
-
-pub word-whole : (file : List ℕ) (at : ℕ) → at + 4 ≤ length file → wordIn file at ≡ Is (wordAt file at)
-unfolding wordIn
-word-whole file at h = rw (le-ltb _ _ h)
-
 -- ---- one word more
-
-pub words-more : (file : List ℕ) (at count : ℕ) → wordsAt file at (suc count) ≡ wordsAt file at count ++ (wordAt file (at + 4 * count) ∷ [])
-unfolding wordsAt
-words-more file at zero = let e : at + 4 * 0 ≡ at = omega arith in rw e
-words-more file at (suc count) =
-    let e : at + 4 + 4 * count ≡ at + 4 * suc count = omega arith in
-    ap (λ (ws : List ℕ). wordAt file at ∷ ws) (words-more file (at + 4) count ∙ ap (λ (k : ℕ). wordsAt file (at + 4) count ++ (wordAt file k ∷ [])) e)
 
 pub bytes-append : (xs ys : List ℕ) → bytesIn (xs ++ ys) ≡ bytesIn xs ++ bytesIn ys
 unfolding bytesIn
@@ -72,33 +51,12 @@ bytes-more words i h =
     ∙ bytes-append (take i words) (getD words i 0 ∷ [])
     ∙ ap (λ (bs : List ℕ). bytesIn (take i words) ++ bs) (bytes-one (getD words i 0))
 
--- ---- a list that grows at the front of lent words
-
-pub lay-next : (done : List ℕ) (word i : ℕ) (lent : List ℕ) → length done ≡ i → i < length lent
-    → set (done ++ drop i lent) i word ≡ done ++ (word ∷ []) ++ drop (i + 1) lent
-lay-next done word i lent e h =
-    ap (λ (xs : List ℕ). set (done ++ xs) i word) (drop-cons lent i 0 h)
-    ∙ set-at done (getD lent i 0) (drop (suc i) lent) word i e
-    ∙ sym (append-snoc done word (drop (suc i) lent))
-    ∙ ap (λ (k : ℕ). done ++ (word ∷ []) ++ drop k lent) (sym (add-one i))
-
-pub words-none : (file : List ℕ) (at : ℕ) (lent : List ℕ) → lent ≡ wordsAt file at 0 ++ drop 0 lent
-unfolding wordsAt
-words-none file at lent = refl
-
 -- with room for all of them, words of a file laid over lent ones
 pub laid-words : (file : List ℕ) (at count : ℕ) (lent : List ℕ) → count ≤ length lent
     → laid (wordsAt file at count) lent ≡ wordsAt file at count ++ drop count lent
 laid-words file at count lent h =
     laid-whole (wordsAt file at count) lent (rw (length-words file at count) h)
     ∙ ap (λ (k : ℕ). wordsAt file at count ++ drop k lent) (length-words file at count)
-
--- one word more of a file
-pub words-next : (file : List ℕ) (at i : ℕ) (lent : List ℕ) → i < length lent
-    → set (wordsAt file at i ++ drop i lent) i (wordAt file (at + 4 * i)) ≡ wordsAt file at (i + 1) ++ drop (i + 1) lent
-words-next file at i lent h =
-    lay-next (wordsAt file at i) (wordAt file (at + 4 * i)) i lent (length-words file at i) h
-    ∙ ap (λ (ws : List ℕ). ws ++ drop (i + 1) lent) (sym (words-more file at i) ∙ ap (wordsAt file at) (sym (add-one i)))
 
 -- ---- bytes put over others
 

@@ -21,13 +21,15 @@ use Rattle.paging.proofs.Calls.{open-exactly}
 use Rattle.paging.proofs.Writing.{laid-whole}
 use Rattle.calls.specs.Chain.{andThen, lentGate}
 use Rattle.calls.proofs.Chain.{gate-append}
-use Rattle.bundle.specs.Bytes.{wordAt, wordsAt, section, over}
+use Rattle.words.specs.Bytes.{wordAt, wordsAt}
+use Rattle.bundle.specs.Bytes.{section, over}
 use Rattle.bundle.specs.Reading.{requestCount, planPlace, planCount, fileEnd, requestsIn, planIn, planFits, headTests, formTests, sizeTests, valueTests, readTests, sizesOf, answerBy, readOf, requestsLeft, planLeft}
 use Rattle.bundle.specs.Writing as writing
 use Rattle.bundle.specs.Writing.{fileOf, callTests, writeTests, writeOf, roomLeft}
 use Rattle.bundle.specs.declared.ReadAnswer.the-variants.{Bundle, Refused}
 use Rattle.bundle.specs.declared.WriteAnswer.the-variants as wrote
-use Rattle.bundle.proofs.Bytes.{length-words, length-section, laid-words, over-next, mark-found, mark-lost}
+use Rattle.words.proofs.Bytes.{length-words}
+use Rattle.bundle.proofs.Bytes.{length-section, laid-words, over-next, mark-found, mark-lost}
 
 -- a plan has at most as many words as there are requests
 pub fits-small : (requests planned : ℕ) → planFits requests planned ≡ true → planned ≤ requests

@@ -18,14 +18,16 @@ use Rattle.paging.specs.Calls.{requestLimit, test, gate, outside, marked, trace
 use Rattle.paging.specs.declared.Gate.{Gate}
 use Rattle.paging.specs.declared.Gate.the-variants.{Open, No}
 use Rattle.paging.specs.declared.Refusal.the-variants.{LentTooShort}
-use Rattle.bundle.specs.Bytes.{wordAt, wordsAt, bytesIn}
+use Rattle.words.specs.Bytes.{wordAt, wordsAt}
+use Rattle.bundle.specs.Bytes.{bytesIn}
 use Rattle.bundle.specs.Reading.{requestCount, planPlace, planCount, fileEnd, requestsIn, planIn, planFits, formTests, sizeTests, valueTests, readTests, sizesOf, answerBy, readOf, requestsLeft, planLeft}
 use Rattle.bundle.specs.Writing as writing
 use Rattle.bundle.specs.Writing.{fileOf, callTests, writeTests, writeOf, roomLeft}
 use Rattle.bundle.specs.declared.Sizes.{Sizes}
 use Rattle.bundle.specs.declared.ReadAnswer.the-variants.{Bundle}
 use Rattle.bundle.specs.declared.WriteAnswer.the-variants.{Bytes}
-use Rattle.bundle.proofs.Bytes.{length-words, length-bytes, bytes-append}
+use Rattle.words.proofs.Bytes.{length-words}
+use Rattle.bundle.proofs.Bytes.{length-bytes, bytes-append}
 use Rattle.bundle.proofs.Chains.{passes, met, first-open, Accepted, accepted, read-done, length-file, call-requests, call-planned, write-done}
 use Rattle.bundle.proofs.Back.{Below, words-behind, words-back, bytes-back, words-append, file-words}
 

@@ -14,7 +14,7 @@ use Rattle.paging.specs.Services.{leftBy}
 use Rattle.paging.specs.declared.Gate.{Gate}
 use Rattle.paging.specs.declared.Gate.the-variants.{Open, No}
 use Rattle.paging.specs.declared.Refusal.the-variants.{FramesOutside, MarkRequested, LentTooShort, FileCut, CountNotAllowed, BytesLeftOver, PlanAboveCache}
-use Rattle.bundle.specs.Bytes.{wordAt, wordsAt}
+use Rattle.words.specs.Bytes.{wordAt, wordsAt}
 use Rattle.bundle.specs.declared.Sizes.{Sizes}
 use Rattle.bundle.specs.declared.ReadAnswer.{ReadAnswer}
 use Rattle.bundle.specs.declared.ReadAnswer.the-variants.{Bundle, Refused}

@@ -8,20 +8,15 @@ ghost use mathlib.Core.List.{_++_};
 ghost use Rattle.paging.specs.Calls.{requestLimit, gate, firstMark};
 ghost use Rattle.paging.specs.declared.Gate.the-variants.{No};
 ghost use Rattle.paging.specs.declared.Refusal.the-variants.{FileCut};
-ghost use Rattle.bundle.specs.Bytes.{wordAt, wordIn, wordsAt, bytesOf, bytesIn, section, over};
+ghost use Rattle.words.specs.Bytes.{wordAt, wordsAt};
+ghost use Rattle.bundle.specs.Bytes.{bytesOf, bytesIn, section, over};
 ghost use Rattle.bundle.specs.Reading.{requestCount, planFits, sizeTests, headTests, tailTests, formTests, valueTests, readTests, readOf, requestsLeft, planLeft};
 ghost use Rattle.bundle.specs.Writing.{callTests, writeOf, roomLeft};
 ghost use Rattle.bundle.specs.Numbers.{readNumbers, writeNumbers};
 use paging::Gate;
 use paging::Refusal;
-
-pub mod reader; // reader.rt: a file and a place in it
-
-// The word at a byte of a file, or none where the file ends before the word does.
-pub enum Word {
-    Is(u32),
-    Missing,
-}
+use words::Word;
+use words::reader;
 
 // What a bundle says of itself: both sizes, the number of requests, and of plan words (0 where no plan came).
 pub struct Sizes {
@@ -58,34 +53,6 @@ pub struct WriteNumbers {
     pub bytes: u32,
 }
 
-fn wide(byte: u8) -> u32
-    ensures { λ r. ⌜ (r ≡ byte) × (r < 256) ⌝ }
-{
-    byte as u32
-}
-
-fn whole_at(file: &[u8], at: usize) -> u32
-    requires { ⌜ at + 4 ≤ length (now file) ⌝ }
-    ensures { λ r. ⌜ r ≡ wordAt (now (file .entry)) at ⌝ }
-{
-    wide(file[at])
-        + 256 * wide(file[at + 1])
-        + 65536 * wide(file[at + 2])
-        + 16777216 * wide(file[at + 3])
-}
-
-pub fn word_at(file: &[u8], at: usize) -> Word
-    ensures { λ r. ⌜ r ≡ wordIn (now (file .entry)) at ⌝ }
-{
-    if file.len() < 4 {
-        return Word::Missing;
-    }
-    if file.len() - 4 < at {
-        return Word::Missing;
-    }
-    Word::Is(whole_at(file, at))
-}
-
 // The word at a byte of a file that has it, by a reader.
 fn number_at(file: &[u8], at: usize) -> u32
     requires { ⌜ at + 4 ≤ length (now file) ⌝ }
@@ -97,19 +64,7 @@ fn number_at(file: &[u8], at: usize) -> u32
     }
 }
 
-// Copies so many words of the file to the front of the lent list.
-fn words_at(file: &[u8], at: usize, count: usize, out: &mut [u32])
-    requires { ⌜ (at + 4 * count ≤ length (now file)) × (count ≤ length (now out)) ⌝ }
-    ensures { λ r. ⌜ now (out .exit) ≡ wordsAt (now (file .entry)) at count ++ drop count (now (out .entry)) ⌝ }
-{
-    let mut i = 0;
-    while i < count {
-        out[i] = whole_at(file, at + 4 * i);
-        i += 1;
-    }
-}
-
-// The same, by a reader.
+// Copies so many words of the file to the front of the lent list, by a reader.
 fn numbers_at(file: &[u8], at: usize, count: usize, out: &mut [u32])
     requires { ⌜ (at + 4 * count ≤ length (now file)) × (count ≤ length (now out)) ⌝ }
     ensures { λ r. ⌜ now (out .exit) ≡ wordsAt (now (file .entry)) at count ++ drop count (now (out .entry)) ⌝ }
@@ -124,7 +79,7 @@ fn mark_at(file: &[u8], requests: usize) -> usize
 {
     let mut i = 0;
     while i < requests {
-        if whole_at(file, 16 + 4 * i) == paging::MARK {
+        if number_at(file, 16 + 4 * i) == paging::MARK {
             return i;
         }
         i += 1;

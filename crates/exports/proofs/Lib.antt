@@ -1,3 +1,3 @@
 -- What the proofs of the exports use.
 mod Words
-mod Loops
+mod Laying

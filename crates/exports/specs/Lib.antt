@@ -1,3 +1,2 @@
 -- What the contracts of the exported services cite.
 pub mod Words
-pub mod Records

@@ -1,9 +1,9 @@
 // The services of document 01 for callers outside: numbers, and lists as a pointer and a length.
 // An answer goes to the front of lent words, number by number; where the words end, the rest is left out. Nothing is asked of a caller.
-pub mod records;
+pub mod caches; // caches.rt: Fresh, soundness and Feed
 
 ghost use mathlib.Core.Path.{_≡_};
-ghost use lib.ListN.{length, set};
+ghost use lib.ListN.{length};
 ghost use Rattle.counts.specs.Counts.{countOf, planOf, wordsOf};
 ghost use Rattle.judge.specs.Check.{checkOf};
 ghost use Rattle.judge.specs.Better.{betterOf};
@@ -22,27 +22,31 @@ struct ReplyNumbers {
     page: u32,
 }
 
-// Puts a word where there is one.
-fn put(words: &mut [u32], at: usize, word: u32)
-    ensures { λ r. ⌜ now (words .exit) ≡ set (now (words .entry)) at word ⌝ }
+// Lays numbers over the front of words, as many as there is room for.
+fn lay(numbers: &[u32], words: &mut [u32])
+    ensures { λ r. ⌜ now (words .exit) ≡ laid (now (numbers .entry)) (now (words .entry)) ⌝ }
 {
-    if at < words.len() {
-        words[at] = word;
+    let mut i = 0;
+    while i < numbers.len() {
+        if words.len() <= i {
+            return;
+        }
+        words[i] = numbers[i];
+        i += 1;
     }
 }
 
 fn put_count(counted: Answer, answer: &mut [u32])
-    ensures { λ r. ⌜ now (answer .exit) ≡ countWords counted (now (answer .entry)) ⌝ }
+    ensures { λ r. ⌜ now (answer .exit) ≡ laid (countWords counted) (now (answer .entry)) ⌝ }
 {
     let told = calls::answer_numbers(counted);
-    put(answer, 0, told.number);
-    put(answer, 1, told.place);
-    put(answer, 2, told.faults);
+    let numbers = [told.number, told.place, told.faults];
+    lay(&numbers, answer);
 }
 
 #[no_mangle]
 pub extern "C" fn hedravos_count(rule: u32, n: u32, trace: &[u32], answer: &mut [u32])
-    ensures { λ r. ⌜ now (answer .exit) ≡ countWords (countOf rule n (now (trace .entry))) (now (answer .entry)) ⌝ }
+    ensures { λ r. ⌜ now (answer .exit) ≡ laid (countWords (countOf rule n (now (trace .entry)))) (now (answer .entry)) ⌝ }
 {
     put_count(counts::count(rule, n, trace), answer);
 }
@@ -56,14 +60,14 @@ pub extern "C" fn hedravos_plan(
     answer: &mut [u32],
 )
     ensures words { λ r. ⌜ now (words .exit) ≡ wordsOf rule n (now (trace .entry)) (now (words .entry)) ⌝ }
-    ensures answer { λ r. ⌜ now (answer .exit) ≡ countWords (planOf rule n (now (trace .entry)) (now (words .entry))) (now (answer .entry)) ⌝ }
+    ensures answer { λ r. ⌜ now (answer .exit) ≡ laid (countWords (planOf rule n (now (trace .entry)) (now (words .entry)))) (now (answer .entry)) ⌝ }
 {
     put_count(counts::write_plan(rule, n, trace, words), answer);
 }
 
 #[no_mangle]
 pub extern "C" fn hedravos_check(m: u32, trace: &[u32], words: &[u32], answer: &mut [u32])
-    ensures { λ r. ⌜ now (answer .exit) ≡ countWords (checkOf m (now (trace .entry)) (now (words .entry))) (now (answer .entry)) ⌝ }
+    ensures { λ r. ⌜ now (answer .exit) ≡ laid (countWords (checkOf m (now (trace .entry)) (now (words .entry)))) (now (answer .entry)) ⌝ }
 {
     put_count(judge::check(m, trace, words), answer);
 }
@@ -76,13 +80,11 @@ pub extern "C" fn hedravos_better(
     second: &[u32],
     answer: &mut [u32],
 )
-    ensures { λ r. ⌜ now (answer .exit) ≡ verdictWords (betterOf m (now (trace .entry)) (now (first .entry)) (now (second .entry))) (now (answer .entry)) ⌝ }
+    ensures { λ r. ⌜ now (answer .exit) ≡ laid (verdictWords (betterOf m (now (trace .entry)) (now (first .entry)) (now (second .entry)))) (now (answer .entry)) ⌝ }
 {
     let told = judge::verdict_numbers(judge::better(m, trace, first, second));
-    put(answer, 0, told.number);
-    put(answer, 1, told.place);
-    put(answer, 2, told.which);
-    put(answer, 3, told.faults);
+    let numbers = [told.number, told.place, told.which, told.faults];
+    lay(&numbers, answer);
 }
 
 // Of the words that Better of two hands back: which plan they are of, and how many they are.
@@ -94,12 +96,12 @@ pub extern "C" fn hedravos_better_words<'a>(
     second: &'a [u32],
     answer: &mut [u32],
 )
-    ensures { λ r. ⌜ now (answer .exit) ≡ chosenWords m (now (trace .entry)) (now (first .entry)) (now (second .entry)) (now (answer .entry)) ⌝ }
+    ensures { λ r. ⌜ now (answer .exit) ≡ laid (chosenWords m (now (trace .entry)) (now (first .entry)) (now (second .entry))) (now (answer .entry)) ⌝ }
 {
     let told = judge::verdict_numbers(judge::better(m, trace, first, second));
     let words = judge::better_words(m, trace, first, second);
-    put(answer, 0, told.which);
-    put(answer, 1, words.len() as u32);
+    let numbers = [told.which, words.len() as u32];
+    lay(&numbers, answer);
 }
 
 #[no_mangle]
@@ -111,15 +113,18 @@ pub extern "C" fn hedravos_read(
 )
     ensures requests { λ r. ⌜ now (requests .exit) ≡ requestsLeft (now (bytes .entry)) (now (requests .entry)) (length (now (plan .entry))) ⌝ }
     ensures plan { λ r. ⌜ now (plan .exit) ≡ planLeft (now (bytes .entry)) (length (now (requests .entry))) (now (plan .entry)) ⌝ }
-    ensures answer { λ r. ⌜ now (answer .exit) ≡ readWords (readOf (now (bytes .entry)) (length (now (requests .entry))) (length (now (plan .entry)))) (now (answer .entry)) ⌝ }
+    ensures answer { λ r. ⌜ now (answer .exit) ≡ laid (readWords (readOf (now (bytes .entry)) (length (now (requests .entry))) (length (now (plan .entry))))) (now (answer .entry)) ⌝ }
 {
     let told = bundle::read_numbers(bundle::read(bytes, requests, plan));
-    put(answer, 0, told.number);
-    put(answer, 1, told.place);
-    put(answer, 2, told.n);
-    put(answer, 3, told.m);
-    put(answer, 4, told.requests);
-    put(answer, 5, told.planned);
+    let numbers = [
+        told.number,
+        told.place,
+        told.n,
+        told.m,
+        told.requests,
+        told.planned,
+    ];
+    lay(&numbers, answer);
 }
 
 #[no_mangle]
@@ -132,20 +137,20 @@ pub extern "C" fn hedravos_write(
     answer: &mut [u32],
 )
     ensures room { λ r. ⌜ now (room .exit) ≡ roomLeft n m (now (trace .entry)) (now (plan .entry)) (now (room .entry)) ⌝ }
-    ensures answer { λ r. ⌜ now (answer .exit) ≡ writeWords (writeOf n m (now (trace .entry)) (now (plan .entry)) (length (now (room .entry)))) (now (answer .entry)) ⌝ }
+    ensures answer { λ r. ⌜ now (answer .exit) ≡ laid (writeWords (writeOf n m (now (trace .entry)) (now (plan .entry)) (length (now (room .entry))))) (now (answer .entry)) ⌝ }
 {
     let told = bundle::write_numbers(bundle::write(n, m, trace, plan, room));
-    put(answer, 0, told.number);
-    put(answer, 1, told.place);
-    put(answer, 2, told.bytes);
+    let numbers = [told.number, told.place, told.bytes];
+    lay(&numbers, answer);
 }
 
 // The report's text at the front of the room, and how many bytes of it there are.
 #[no_mangle]
 pub extern "C" fn hedravos_report(file: &[u8], room: &mut [u8], answer: &mut [u32])
     ensures room { λ r. ⌜ now (room .exit) ≡ laid (reportOf (now (file .entry))) (now (room .entry)) ⌝ }
-    ensures answer { λ r. ⌜ now (answer .exit) ≡ textWords (reportOf (now (file .entry))) (length (now (room .entry))) (now (answer .entry)) ⌝ }
+    ensures answer { λ r. ⌜ now (answer .exit) ≡ laid (textWords (reportOf (now (file .entry))) (length (now (room .entry)))) (now (answer .entry)) ⌝ }
 {
     let bytes = reporting::report(file, room) as u32;
-    put(answer, 0, bytes);
+    let numbers = [bytes];
+    lay(&numbers, answer);
 }

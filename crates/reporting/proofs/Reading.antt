@@ -9,12 +9,12 @@ use lib.Seq.{take-at}
 use Rattle.paging.specs.Calls.{requestLimit, gate}
 use Rattle.paging.specs.declared.Gate.the-variants.{Open}
 use Rattle.paging.specs.declared.Refusal.{Refusal}
-use Rattle.bundle.specs.Bytes.{wordsAt}
+use Rattle.words.specs.Bytes.{wordsAt}
 use Rattle.bundle.specs.Reading.{requestCount, planPlace, planCount, requestsIn, planIn, readTests, readOf, requestsLeft, planLeft}
 use Rattle.bundle.specs.declared.Sizes.{Sizes}
 use Rattle.bundle.specs.declared.ReadAnswer.{ReadAnswer}
 use Rattle.bundle.specs.declared.ReadAnswer.the-variants.{Bundle, Refused}
-use Rattle.bundle.proofs.Bytes.{length-words}
+use Rattle.words.proofs.Bytes.{length-words}
 use Rattle.bundle.proofs.Chains.{read-done}
 use Rattle.bundle.proofs.Laws.{bundle-open}
 use Rattle.reporting.specs.Report.{refusedLine, linesOf, textBy, reportOf}

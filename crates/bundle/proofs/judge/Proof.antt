@@ -8,7 +8,7 @@ use Rattle.paging.specs.Calls.{gate}
 use Rattle.paging.specs.declared.Gate.{Gate}
 use Rattle.paging.specs.declared.Gate.the-variants.{Open}
 use Rattle.calls.specs.Chain.{lentGate}
-use Rattle.bundle.specs.Bytes.{wordAt}
+use Rattle.words.specs.Bytes.{wordAt}
 use Rattle.bundle.specs.Reading.{formTests, valueTests}
 use Rattle.bundle.proofs.Chains.{Formed, formed, judge-stops, judge-goes-on}
 use Rattle.bundle.proofs.judge.Statement.{statement}

@@ -5,7 +5,7 @@ use mathlib.Core.Path.{_≡_, sym, _∙_}
 use Prim.Native.Nat.{_+_, _*_, _-_, _≤_}
 use native.Mathlib.Omega.{arith}
 use Rattle.paging.specs.Calls.{firstMark}
-use Rattle.bundle.specs.Bytes.{wordsAt}
+use Rattle.words.specs.Bytes.{wordsAt}
 use Rattle.bundle.proofs.Bytes.{mark-start, mark-here, mark-on, mark-end}
 use Rattle.bundle.proofs.mark_at.Statement.{statement}
 use Rattle.bundle.proofs.mark_at.Tie as tie
@@ -19,20 +19,20 @@ abbrev μ-loop : tie.MeasureT-loop
 loop-holds : tie.Need-loop-holds Inv-loop μ-loop
 loop-holds c = (omega arith, mark-start (c .before .args .file .now) (c .before .args .requests))
 
-mul-whole-at : tie.Need-mul-whole-at Inv-loop μ-loop
-mul-whole-at c = search needs
+mul-number-at : tie.Need-mul-number-at Inv-loop μ-loop
+mul-number-at c = search needs
 
-add-whole-at : tie.Need-add-whole-at Inv-loop μ-loop
-add-whole-at c = search needs
+add-number-at : tie.Need-add-number-at Inv-loop μ-loop
+add-number-at c = search needs
 
-whole-at-requires : tie.Need-whole-at-requires Inv-loop μ-loop
-whole-at-requires c κs = search needs
+number-at-requires : tie.Need-number-at-requires Inv-loop μ-loop
+number-at-requires c κs = search needs
 
 returns : tie.Need-returns Inv-loop μ-loop
 returns c =
     let l = c .before .before .before in
     let s = l .before .before in
-    omega (arith, mark-here (s .args .file .now) (s .args .requests) (l .loop .i) (c .before .before .loop-test .taken) (sym (c .before .whole-at .ensures) ∙ c .if1 .taken))
+    omega (arith, mark-here (s .args .file .now) (s .args .requests) (l .loop .i) (c .before .before .loop-test .taken) (sym (c .before .number-at .ensures) ∙ c .if1 .taken))
 
 add-i : tie.Need-add-i Inv-loop μ-loop
 add-i c = search needs
@@ -44,7 +44,7 @@ loop-again : tie.Need-loop-again Inv-loop μ-loop
 loop-again c =
     let l = c .before .before .before in
     let s = l .before .before in
-    omega (arith, mark-on (s .args .file .now) (s .args .requests) (l .loop .i) (c .before .before .loop-test .taken) (λ e. c .if1 .left (c .before .whole-at .ensures ∙ e)))
+    omega (arith, mark-on (s .args .file .now) (s .args .requests) (l .loop .i) (c .before .before .loop-test .taken) (λ e. c .if1 .left (c .before .number-at .ensures ∙ e)))
 
 returns-2 : tie.Need-returns-2 Inv-loop μ-loop
 returns-2 c =
@@ -60,9 +60,9 @@ mark-at-spec =
     Inv-loop
     μ-loop
     loop-holds
-    mul-whole-at
-    add-whole-at
-    whole-at-requires
+    mul-number-at
+    add-number-at
+    number-at-requires
     returns
     add-i
     loop-less

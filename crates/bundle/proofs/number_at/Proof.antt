@@ -4,9 +4,9 @@ use borrow.Author.Needs.{needs}
 use native.Mathlib.Omega.{arith}
 use mathlib.Core.Path.{sym, ap, _∙_}
 use Prim.Native.Nat.{ℕ}
-use Rattle.bundle.specs.declared.Word.{Word}
-use Rattle.bundle.specs.declared.Word.the-variants.{Is, Missing}
-use Rattle.bundle.proofs.Bytes.{word-whole}
+use Rattle.words.specs.declared.Word.{Word}
+use Rattle.words.specs.declared.Word.the-variants.{Is, Missing}
+use Rattle.words.proofs.Bytes.{word-whole}
 use Rattle.bundle.proofs.number_at.Statement.{statement}
 use Rattle.bundle.proofs.number_at.Tie as tie
 

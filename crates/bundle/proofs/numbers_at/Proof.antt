@@ -6,8 +6,8 @@ use mathlib.Core.Path.{ap, _∙_}
 use mathlib.Core.List.{_++_}
 use Prim.Native.Nat.{ℕ}
 use lib.ListN.{length, drop}
-use Rattle.bundle.specs.Bytes.{wordsAt}
-use Rattle.bundle.proofs.Places.{held-whole}
+use Rattle.words.specs.Bytes.{wordsAt}
+use Rattle.words.proofs.Places.{held-whole}
 use Rattle.bundle.proofs.numbers_at.Statement.{statement}
 use Rattle.bundle.proofs.numbers_at.Tie as tie
 

@@ -8,7 +8,7 @@ use native.Mathlib.Omega.{arith}
 use lib.ListN.{length, drop}
 use Rattle.paging.specs.Calls.{gate}
 use Rattle.paging.specs.declared.Gate.the-variants.{Open}
-use Rattle.bundle.specs.Bytes.{wordAt, wordsAt}
+use Rattle.words.specs.Bytes.{wordAt, wordsAt}
 use Rattle.bundle.specs.Reading.{planCount, readTests}
 use Rattle.bundle.proofs.Chains.{Accepted, accepted, read-refused, read-done}
 use Rattle.bundle.proofs.read.Statement.{statement}

@@ -8,7 +8,7 @@ use Rattle.paging.specs.Calls.{gate}
 use Rattle.paging.specs.Calls.{firstMark}
 use Rattle.paging.specs.declared.Gate.the-variants.{Open, No}
 use Rattle.paging.specs.declared.Refusal.the-variants.{MarkRequested}
-use Rattle.bundle.specs.Bytes.{wordAt, wordsAt}
+use Rattle.words.specs.Bytes.{wordAt, wordsAt}
 use Rattle.bundle.specs.Reading.{requestCount, requestsIn, sizeTests}
 use Rattle.bundle.proofs.Chains.{value-stops, value-marked, value-open}
 use Rattle.bundle.proofs.value_gate.Statement.{statement}

@@ -11,23 +11,17 @@ better-requires c κs = search needs
 verdict-numbers-requires : tie.Need-verdict-numbers-requires
 verdict-numbers-requires c κs = search needs
 
-put-requires : tie.Need-put-requires
-put-requires c κs = search needs
+slice-aggregate-lay : tie.Need-slice-aggregate-lay
+slice-aggregate-lay c = search needs
 
-put-requires-2 : tie.Need-put-requires-2
-put-requires-2 c κs = search needs
-
-put-requires-3 : tie.Need-put-requires-3
-put-requires-3 c κs = search needs
-
-put-requires-4 : tie.Need-put-requires-4
-put-requires-4 c κs = search needs
+lay-requires : tie.Need-lay-requires
+lay-requires c κs = search needs
 
 same-length : tie.Need-same-length
 same-length c = search needs
 
 returns : tie.Need-returns
-returns c = rw (c .before .before .put4 .ensures, c .before .before .before .before .before .before .put3 .ensures, c .before .before .before .before .before .before .before .before .before .before .put2 .ensures, c .before .before .before .before .before .before .before .before .before .before .before .before .before .before .put .ensures, c .before .before .before .before .before .before .before .before .before .before .before .before .before .before .before .before .verdict-numbers .ensures, c .before .before .before .before .before .before .before .before .before .before .before .before .before .before .before .before .before .better .ensures) refl
+returns c = rw (c .before .before .lay .ensures, c .before .before .before .before .before .verdict-numbers .ensures, c .before .before .before .before .before .before .better .ensures) refl
 
 pub hedravos-better-spec : {M : Type 1} → statement M
 hedravos-better-spec =
@@ -35,9 +29,7 @@ hedravos-better-spec =
     (tie.spec
     better-requires
     verdict-numbers-requires
-    put-requires
-    put-requires-2
-    put-requires-3
-    put-requires-4
+    slice-aggregate-lay
+    lay-requires
     same-length
     returns)

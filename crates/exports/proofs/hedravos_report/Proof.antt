@@ -1,8 +1,9 @@
 -- `exports::hedravos_report` meets its contract: no report is too long for the answer's word.
 -- Assumes nothing.
+use borrow.Author.Needs.{needs}
+use mathlib.Core.Path.{refl}
 use native.Mathlib.Omega.{arith}
 use lib.ListN.{length, length-take}
-use borrow.Author.Needs.{needs}
 use Rattle.reporting.specs.Report.{reportOf}
 use Rattle.reporting.proofs.Short.{report-short}
 use Rattle.exports.proofs.hedravos_report.Statement.{statement}
@@ -17,8 +18,11 @@ cast-bytes c =
     let s = r .before .before .before .before .before in
     omega (arith, r .report .ensures .0, length-take (length (s .args .room .now)) (reportOf (s .args .file .now)), report-short (s .args .file .now))
 
-put-requires : tie.Need-put-requires
-put-requires c κs = search needs
+slice-aggregate-lay : tie.Need-slice-aggregate-lay
+slice-aggregate-lay c = search needs
+
+lay-requires : tie.Need-lay-requires
+lay-requires c κs = search needs
 
 same-length : tie.Need-same-length
 same-length c = search needs
@@ -27,10 +31,16 @@ same-length-2 : tie.Need-same-length-2
 same-length-2 c = search needs
 
 returns : tie.Need-returns
-returns c =
-    let r = c .before .before .before .before .before .before in
-    (r .report .ensures .1, rw (c .before .before .put .ensures, r .report .ensures .0))
+returns c = (c .before .before .before .before .before .before .before .report .ensures .1, rw (c .before .before .lay .ensures, c .before .before .before .before .before .before .before .report .ensures .0) refl)
 
 pub hedravos-report-spec : {M : Type 1} → statement M
 hedravos-report-spec =
-    tie.close (tie.spec report-requires cast-bytes put-requires same-length same-length-2 returns)
+    tie.close
+    (tie.spec
+    report-requires
+    cast-bytes
+    slice-aggregate-lay
+    lay-requires
+    same-length
+    same-length-2
+    returns)

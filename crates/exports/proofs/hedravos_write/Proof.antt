@@ -11,14 +11,11 @@ write-requires c κs = search needs
 write-numbers-requires : tie.Need-write-numbers-requires
 write-numbers-requires c κs = search needs
 
-put-requires : tie.Need-put-requires
-put-requires c κs = search needs
+slice-aggregate-lay : tie.Need-slice-aggregate-lay
+slice-aggregate-lay c = search needs
 
-put-requires-2 : tie.Need-put-requires-2
-put-requires-2 c κs = search needs
-
-put-requires-3 : tie.Need-put-requires-3
-put-requires-3 c κs = search needs
+lay-requires : tie.Need-lay-requires
+lay-requires c κs = search needs
 
 same-length : tie.Need-same-length
 same-length c = search needs
@@ -27,7 +24,7 @@ same-length-2 : tie.Need-same-length-2
 same-length-2 c = search needs
 
 returns : tie.Need-returns
-returns c = (c .before .before .before .before .before .before .before .before .before .before .before .before .before .before .before .write .ensures .1, rw (c .before .before .put3 .ensures, c .before .before .before .before .before .before .put2 .ensures, c .before .before .before .before .before .before .before .before .before .before .put .ensures, c .before .before .before .before .before .before .before .before .before .before .before .before .write-numbers .ensures, c .before .before .before .before .before .before .before .before .before .before .before .before .before .before .before .write .ensures .0) refl)
+returns c = (c .before .before .before .before .before .before .before .before .write .ensures .1, rw (c .before .before .lay .ensures, c .before .before .before .before .before .write-numbers .ensures, c .before .before .before .before .before .before .before .before .write .ensures .0) refl)
 
 pub hedravos-write-spec : {M : Type 1} → statement M
 hedravos-write-spec =
@@ -35,9 +32,8 @@ hedravos-write-spec =
     (tie.spec
     write-requires
     write-numbers-requires
-    put-requires
-    put-requires-2
-    put-requires-3
+    slice-aggregate-lay
+    lay-requires
     same-length
     same-length-2
     returns)

@@ -1,0 +1,35 @@
+-- `exports::caches::hedravos_feed_own` meets its contract.
+-- Assumes nothing.
+use borrow.Author.Needs.{needs}
+use mathlib.Core.Path.{refl}
+use Rattle.exports.proofs.caches.hedravos_feed_own.Statement.{statement}
+use Rattle.exports.proofs.caches.hedravos_feed_own.Tie as tie
+
+record-of-requires : tie.Need-record-of-requires
+record-of-requires c κs = search needs
+
+feed-through-requires : tie.Need-feed-through-requires
+feed-through-requires c κs = search needs
+
+put-fed-requires : tie.Need-put-fed-requires
+put-fed-requires c κs = search needs
+
+same-length : tie.Need-same-length
+same-length c = search needs
+
+same-length-2 : tie.Need-same-length-2
+same-length-2 c = search needs
+
+returns : tie.Need-returns
+returns c = (rw (c .before .before .before .before .put-fed .ensures .0, c .before .before .before .before .before .before .before .feed-through .ensures, c .before .before .before .before .before .before .before .before .record-of .ensures) refl, rw (c .before .before .before .before .put-fed .ensures .1, c .before .before .before .before .before .before .before .feed-through .ensures, c .before .before .before .before .before .before .before .before .record-of .ensures) refl)
+
+pub hedravos-feed-own-spec : {M : Type 1} → statement M
+hedravos-feed-own-spec =
+    tie.close
+    (tie.spec
+    record-of-requires
+    feed-through-requires
+    put-fed-requires
+    same-length
+    same-length-2
+    returns)

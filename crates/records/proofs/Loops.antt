@@ -1,0 +1,61 @@
+-- Steps of the two loops between a record and its words: an entry read is an entry fewer to read, and an entry put is an entry fewer to put.
+-- Assumes nothing.
+use mathlib.Core.Path.{_≡_, refl, sym, subst, _∙_}
+use mathlib.Core.List.{List, [], _∷_, _++_, append-assoc, append-nil}
+use Prim.Native.Nat.{ℕ, suc, zero, _+_, _*_, _-_, _≤_, _<_}
+use native.Mathlib.Omega.{arith}
+use lib.ListN.{length, getD, take, drop, set, length-set}
+use lib.Seq.{take-suc-set, take-length, drop-cons}
+use Rattle.paging.specs.declared.Entry.{Entry}
+use Rattle.records.specs.Records.{entryAt, entriesAt, putEntry, putEntries}
+
+-- past the end a list reads as zeros
+pub past : (l : List ℕ) (i : ℕ) → length l ≤ i → 0 ≡ getD l i 0
+past [] i h = refl
+past (x ∷ xs) zero h = absurd (omega arith)
+past (x ∷ xs) (suc i) h = past xs i (omega arith)
+
+pub read-on : (words : List ℕ) (es : List Entry) (n i : ℕ) (all : List Entry) → i < n → i < length es
+    → take i es ++ entriesAt words (4 + 4 * i) (n - i) ≡ all
+    → take (i + 1) (set es i (entryAt words (4 + 4 * i))) ++ entriesAt words (4 + 4 * (i + 1)) (n - (i + 1)) ≡ all
+unfolding entriesAt
+read-on words es n i all h k e =
+    let f : n - i ≡ suc (n - (i + 1)) = omega arith in
+    let g : 4 + 4 * (i + 1) ≡ 4 + 4 * i + 4 = omega arith in
+    let s : i + 1 ≡ suc i = omega arith in
+    let t : take (i + 1) (set es i (entryAt words (4 + 4 * i))) ≡ take i es ++ (entryAt words (4 + 4 * i) ∷ []) = rw s (take-suc-set es i (entryAt words (4 + 4 * i)) k) in
+    let u : take i es ++ (entryAt words (4 + 4 * i) ∷ entriesAt words (4 + 4 * i + 4) (n - (i + 1))) ≡ all = rw (← e, f) refl in
+    rw (t, g, append-assoc (take i es) (entryAt words (4 + 4 * i) ∷ []) (entriesAt words (4 + 4 * i + 4) (n - (i + 1)))) u
+
+pub read-all : (words : List ℕ) (es : List Entry) (n i : ℕ) (all : List Entry) → n ≤ i → i ≤ n → length es ≡ n
+    → take i es ++ entriesAt words (4 + 4 * i) (n - i) ≡ all
+    → es ≡ all
+unfolding entriesAt
+read-all words es n i all h k l e =
+    let f : n - i ≡ 0 = omega arith in
+    let g : i ≡ length es = omega arith in
+    let t : take i es ≡ es = rw g (take-length es) in
+    let u : take i es ++ [] ≡ all = rw (← e, f) refl in
+    sym (append-nil es) ∙ rw (← t) u
+
+pub put-on : (es : List Entry) (d : Entry) (i : ℕ) (words all : List ℕ) → i < length es
+    → putEntries (4 + 4 * i) (drop i es) words ≡ all
+    → putEntries (4 + 4 * (i + 1)) (drop (i + 1) es) (putEntry (4 + 4 * i) (getD es i d) words) ≡ all
+unfolding putEntries
+put-on es d i words all h e =
+    let g : 4 + 4 * (i + 1) ≡ 4 + 4 * i + 4 = omega arith in
+    let s : i + 1 ≡ suc i = omega arith in
+    rw (g, s, ← e, drop-cons es i d h) refl
+
+none-left : (es : List Entry) (i : ℕ) → length es ≤ i → drop i es ≡ []
+none-left [] zero h = refl
+none-left [] (suc i) h = refl
+none-left (e ∷ es) zero h = absurd (omega arith)
+none-left (e ∷ es) (suc i) h = none-left es i (omega arith)
+
+pub put-all : (es : List Entry) (i at : ℕ) (words all : List ℕ) → length es ≤ i → putEntries at (drop i es) words ≡ all → words ≡ all
+unfolding putEntries
+put-all es i at words all h e = subst (λ (left : List Entry). putEntries at left words ≡ all) (none-left es i h) e
+
+pub put-length : (at : ℕ) (e : Entry) (words : List ℕ) → length (putEntry at e words) ≡ length words
+put-length at e words = rw (length-set (set (set (set words at (e .page .0)) (at + 1) (e .loaded .0)) (at + 2) (e .last .0)) (at + 3) (e .earlier .0), length-set (set (set words at (e .page .0)) (at + 1) (e .loaded .0)) (at + 2) (e .last .0), length-set (set words at (e .page .0)) (at + 1) (e .loaded .0), length-set words at (e .page .0)) refl

@@ -1,0 +1,2 @@
+-- What the contracts of records in words cite.
+pub mod Records
