@@ -1,6 +1,6 @@
 // The bundle file of document 01: little-endian words in three sections, sizes, requests and plan, each after its count.
 // Reading judges the whole file before it copies anything; writing judges the call before it writes anything.
-// In order: words and sections from bytes; reading; words and sections to bytes; writing; document 01's numbers of the answers.
+// In order: words and sections from bytes, by the reader of `words`; reading; words and sections to bytes; writing; document 01's numbers of the answers.
 ghost use mathlib.Core.Path.{_≡_};
 ghost use Prim.Native.Nat.{_+_, _*_, _/_, _%_, _<_, _≤_};
 ghost use lib.ListN.{length, drop};
