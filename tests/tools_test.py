@@ -1,4 +1,4 @@
-"""Tries tools/bundle_from_text and tools/bundle_to_text, there and back again.
+"""Tries tools/bundle_from_text and tools/bundle_to_text, there and back again, and tools/report.
 
     python3 tests/tools_test.py
 
@@ -10,6 +10,7 @@ import random
 import struct
 import subprocess
 import sys
+import tempfile
 
 ROOT = pathlib.Path(__file__).resolve().parent.parent
 MARK = 4294967295
@@ -152,6 +153,36 @@ def bundles_refused():
         bundle_refused(name, data, number, place)
 
 
+def report(name, data, lines):
+    """The report program on a file of these bytes."""
+    with tempfile.NamedTemporaryFile() as file:
+        file.write(data)
+        file.flush()
+        done = subprocess.run([str(ROOT / "tools" / "report"), file.name], capture_output=True)
+    text = "".join(line + "\n" for line in lines).encode()
+    case(f"report: {name}", (done.returncode, done.stdout) == (0, text))
+
+
+def reports():
+    head = ["requests 8", "lru 3 6", "fifo 3 5", "min 3 5", "lru2 3 6", "min 2 6"]
+    report("the example", example(), head + ["claim 2 8"])
+    report("a broken entry", example()[:60] + words(9) + example()[64:], head + ["claim refused 7 at 2"])
+    report("no plan", example()[:48] + words(0), head + ["claim none"])
+    none = ["requests 0", "lru 256 0", "fifo 256 0", "min 256 0", "lru2 256 0", "min 1 0", "claim none"]
+    report("no requests", words(2, 256, 1, 0, 0), none)
+    report("an empty file", b"", ["refused 9 at 0"])
+    report("a cut file", example()[:83], ["refused 9 at 80"])
+    report("a byte too many", example() + b"\0", ["refused 11 at 84"])
+    largest = words(2, 256, 256, 8000, *range(8000), 8000, *([MARK] * 256), *range(7744))
+    counts = [f"{rule} 256 8000" for rule in ("lru", "fifo", "min", "lru2", "min", "claim")]
+    report("the largest file", largest, ["requests 8000"] + counts)
+    report("a byte more than the largest", largest + b"\0", ["refused 11 at 64020"])
+    for length in (65535, 65536, 65537, 200000):
+        report(f"{length} bytes", largest + bytes(length - 64020), ["refused 11 at 64020"])
+    missing = subprocess.run([str(ROOT / "tools" / "report"), "no-such-file"], capture_output=True)
+    case("report: no such file", missing.returncode != 0 and missing.stdout == b"")
+
+
 def main():
     for group in (
         the_example,
@@ -160,6 +191,7 @@ def main():
         texts_taken,
         texts_refused,
         bundles_refused,
+        reports,
     ):
         group()
     print(f"{tally['passed']} passed, {tally['failed']} failed")

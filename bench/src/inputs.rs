@@ -1,5 +1,5 @@
-//! The three traces that speed is measured on, the same in every run: 8,000 requests each.
-//! Uniform over 400 pages, a sweep of 257 pages (one more than the frames), and skewed.
+//! The four traces that speed is measured on, the same in every run: 8,000 requests each.
+//! Uniform over 400 pages, a sweep of 257 pages (one more than the frames), skewed, and 8,000 different pages.
 
 pub const REQUESTS: usize = 8_000;
 pub const FRAMES: u32 = 256;
@@ -28,12 +28,19 @@ impl Lot {
     }
 }
 
-pub fn all() -> [(&'static str, Vec<u32>); 3] {
+pub fn all() -> [(&'static str, Vec<u32>); 4] {
     let mut lot = Lot::new(1);
     let uniform = (0..REQUESTS).map(|_| lot.below(400)).collect();
     let sweep = (0..REQUESTS as u32).map(|moment| moment % 257).collect();
     let skewed = (0..REQUESTS).map(|_| lot.skewed(2_000)).collect();
-    [("uniform", uniform), ("sweep", sweep), ("skewed", skewed)]
+    // No page comes again, so that a search for its next request goes to the end.
+    let different = (0..REQUESTS as u32).collect();
+    [
+        ("uniform", uniform),
+        ("sweep", sweep),
+        ("skewed", skewed),
+        ("different", different),
+    ]
 }
 
 /// A bundle file of these values.

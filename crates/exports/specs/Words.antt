@@ -31,10 +31,9 @@ abbrev pub verdictWords : Verdict → List ℕ
 verdictWords v =
     verdictNumbers v .number ∷ verdictNumbers v .place ∷ verdictNumbers v .which ∷ verdictNumbers v .faults ∷ []
 
--- which plan, and how many of its words are handed back
+-- how many words Better of two hands back
 abbrev pub chosenWords : ℕ → List ℕ → List ℕ → List ℕ → List ℕ
-chosenWords m trace first second =
-    verdictNumbers (betterOf m trace first second) .which ∷ length (betterWords m trace first second) ∷ []
+chosenWords m trace first second = length (betterWords m trace first second) ∷ []
 
 -- number, place, both sizes, the requests' count, the plan's count
 abbrev pub readWords : ReadAnswer → List ℕ

@@ -6,7 +6,7 @@ ghost use mathlib.Core.Path.{_≡_};
 ghost use lib.ListN.{length};
 ghost use Rattle.counts.specs.Counts.{countOf, planOf, wordsOf};
 ghost use Rattle.judge.specs.Check.{checkOf};
-ghost use Rattle.judge.specs.Better.{betterOf};
+ghost use Rattle.judge.specs.Better.{betterOf, betterWords};
 ghost use Rattle.bundle.specs.Reading.{readOf, requestsLeft, planLeft};
 ghost use Rattle.bundle.specs.Writing.{writeOf, roomLeft};
 ghost use Rattle.paging.specs.Services.{laid};
@@ -87,20 +87,22 @@ pub extern "C" fn hedravos_better(
     lay(&numbers, answer);
 }
 
-// Of the words that Better of two hands back: which plan they are of, and how many they are.
+// The words that Better of two hands back, laid over the front of lent ones, and how many they are.
 #[no_mangle]
 pub extern "C" fn hedravos_better_words<'a>(
     m: u32,
     trace: &[u32],
     first: &'a [u32],
     second: &'a [u32],
+    words: &mut [u32],
     answer: &mut [u32],
 )
-    ensures { λ r. ⌜ now (answer .exit) ≡ laid (chosenWords m (now (trace .entry)) (now (first .entry)) (now (second .entry))) (now (answer .entry)) ⌝ }
+    ensures words { λ r. ⌜ now (words .exit) ≡ laid (betterWords m (now (trace .entry)) (now (first .entry)) (now (second .entry))) (now (words .entry)) ⌝ }
+    ensures answer { λ r. ⌜ now (answer .exit) ≡ laid (chosenWords m (now (trace .entry)) (now (first .entry)) (now (second .entry))) (now (answer .entry)) ⌝ }
 {
-    let told = judge::verdict_numbers(judge::better(m, trace, first, second));
-    let words = judge::better_words(m, trace, first, second);
-    let numbers = [told.which, words.len() as u32];
+    let chosen = judge::better_words(m, trace, first, second);
+    lay(chosen, words);
+    let numbers = [chosen.len() as u32];
     lay(&numbers, answer);
 }
 

@@ -72,11 +72,8 @@ fn compare_check(tally: &mut Tally, m: u32, trace: &[u32], plan: &[u32]) {
 fn compare_better(tally: &mut Tally, m: u32, trace: &[u32], first: &[u32], second: &[u32]) {
     let ours = second::better(m, trace, first, second);
     let ours = [ours.number, ours.place, ours.which, ours.faults];
-    let (which, length) = second::better_words(m, trace, first, second);
-    let our_words = same_part(&[which, length as u32]);
     let lent = [words(trace), words(first), words(second)];
     let mut theirs = answer(4);
-    let mut their_words = answer(2);
     judge::better(
         m,
         lent[0].part(),
@@ -84,35 +81,59 @@ fn compare_better(tally: &mut Tally, m: u32, trace: &[u32], first: &[u32], secon
         lent[2].part(),
         theirs.part_mut(),
     );
-    judge::better_words(
-        m,
-        lent[0].part(),
-        lent[1].part(),
-        lent[2].part(),
-        their_words.part_mut(),
-    );
     let kept = lent[0].is(trace) && lent[1].is(first) && lent[2].is(second);
-    let guards_kept = their_words.is(their_words.part());
-    let part = same_part(their_words.part());
-    let right = theirs.is(&ours) && guards_kept && part == our_words && kept;
-    tally.case(right, || {
+    tally.case(theirs.is(&ours) && kept, || {
         format!(
-            "better m {m} trace {} first {} second {}: {:?} {part:?}, not {ours:?} {our_words:?}",
+            "better m {m} trace {} first {} second {}: {:?}, not {ours:?}",
             show(trace),
             show(first),
             show(second),
             theirs.part()
         )
     });
+    for room in [trace.len() + 2, trace.len() / 2] {
+        compare_better_words(tally, m, trace, first, second, room);
+    }
 }
 
-/// The empty part at the front of the first plan is the same part, whether the number beside
-/// it is 0 (a refusal) or 1 (a trace without requests); the verdict tells these two apart.
-fn same_part(answer: &[u32]) -> [u32; 2] {
-    if answer == [0, 0] {
-        return [1, 0];
-    }
-    [answer[0], answer[1]]
+/// The words themselves, over the front of so many lent ones, and how many they are.
+fn compare_better_words(
+    tally: &mut Tally,
+    m: u32,
+    trace: &[u32],
+    first: &[u32],
+    second: &[u32],
+    room: usize,
+) {
+    let (which, length) = second::better_words(m, trace, first, second);
+    let chosen = if which == 2 { second } else { first };
+    let mut theirs = answer(room);
+    let mut ours = theirs.part().to_vec();
+    let fits = length.min(room);
+    ours[..fits].copy_from_slice(&chosen[..fits]);
+    let lent = [words(trace), words(first), words(second)];
+    let mut told = answer(1);
+    judge::better_words(
+        m,
+        lent[0].part(),
+        lent[1].part(),
+        lent[2].part(),
+        theirs.part_mut(),
+        told.part_mut(),
+    );
+    let kept = lent[0].is(trace) && lent[1].is(first) && lent[2].is(second);
+    let right = theirs.is(&ours) && told.is(&[length as u32]) && kept;
+    tally.case(right, || {
+        format!(
+            "words m {m} trace {} first {} second {}: {:?} {}, not {length} {}",
+            show(trace),
+            show(first),
+            show(second),
+            told.part(),
+            show(theirs.part()),
+            show(&ours)
+        )
+    });
 }
 
 /// Rubbish to write a plan into: mostly long enough, sometimes not.

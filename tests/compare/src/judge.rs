@@ -48,7 +48,7 @@ extern "C" {
         answer_len: usize,
     );
 
-    /// answer: which plan the words are in (0 for a refusal), how many from its front.
+    /// words: what is handed back, over their front. answer: how many words that is.
     fn hedravos_better_words(
         m: u32,
         trace: *const u32,
@@ -57,6 +57,8 @@ extern "C" {
         first_len: usize,
         second: *const u32,
         second_len: usize,
+        words: *mut u32,
+        words_len: usize,
         answer: *mut u32,
         answer_len: usize,
     );
@@ -201,7 +203,14 @@ pub fn better(m: u32, trace: &[u32], first: &[u32], second: &[u32], answer: &mut
     }
 }
 
-pub fn better_words(m: u32, trace: &[u32], first: &[u32], second: &[u32], answer: &mut [u32]) {
+pub fn better_words(
+    m: u32,
+    trace: &[u32],
+    first: &[u32],
+    second: &[u32],
+    words: &mut [u32],
+    answer: &mut [u32],
+) {
     unsafe {
         hedravos_better_words(
             m,
@@ -211,6 +220,8 @@ pub fn better_words(m: u32, trace: &[u32], first: &[u32], second: &[u32], answer
             first.len(),
             second.as_ptr(),
             second.len(),
+            words.as_mut_ptr(),
+            words.len(),
             answer.as_mut_ptr(),
             answer.len(),
         )

@@ -263,18 +263,23 @@ unsafe extern "C" fn hedravos_better_words(
     first_len: usize,
     second: *const u32,
     second_len: usize,
+    words: *mut u32,
+    words_len: usize,
     answer: *mut u32,
     answer_len: usize,
 ) {
     let requests = list(trace, trace_len);
     let one = list(first, first_len);
     let two = list(second, second_len);
-    let (mut which, mut length) = second::better_words(m, requests, one, two);
+    let (which, mut length) = second::better_words(m, requests, one, two);
     if mistake(10) && which == 0 {
-        which = 1;
-        length = trace_len;
+        length = trace_len.min(first_len);
     }
-    lent(answer, answer_len).copy_from_slice(&[which, length as u32]);
+    let chosen = if which == 2 { two } else { one };
+    let room = lent(words, words_len);
+    let fits = length.min(words_len);
+    room[..fits].copy_from_slice(&chosen[..fits]);
+    lent(answer, answer_len).copy_from_slice(&[length as u32]);
 }
 
 #[no_mangle]
