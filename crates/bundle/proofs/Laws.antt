@@ -1,7 +1,7 @@
 -- Document 01, "Bundle file": "reading what it wrote gives the same values, and writing what was read gives the same bytes".
 --
 -- In order: which files are accepted; the largest file; a written file is accepted with its values; a file that was read is written again.
--- That a file has one reading needs no law: answer and lent lists are equal to functions of the bytes and of what was lent.
+-- That a file has one reading is proved in proofs/OneReading.antt.
 -- Assumes nothing.
 use mathlib.Core.Path.{_≡_, refl, sym, ap, ap₂, _∙_}
 use mathlib.Core.Bool.{Bool, true, false}
@@ -137,7 +137,7 @@ module _ (n m : ℕ) (trace plan : List ℕ) (o : gate (callTests n m trace (len
         ∙ words-back (length plan ∷ plan) [] (small, wp)
 
     -- what stands in a written file
-    front-parts : (wordAt (fileOf n m trace plan) 0 ≡ 2) × (wordAt (fileOf n m trace plan) 4 ≡ n) × (wordAt (fileOf n m trace plan) 8 ≡ m)
+    pub front-parts : (wordAt (fileOf n m trace plan) 0 ≡ 2) × (wordAt (fileOf n m trace plan) 4 ≡ n) × (wordAt (fileOf n m trace plan) 8 ≡ m)
         × (requestCount (fileOf n m trace plan) ≡ length trace) × (wordsAt (fileOf n m trace plan) 16 (length trace) ≡ trace)
     unfolding wordsAt
     front-parts = heads front-words
@@ -149,11 +149,11 @@ module _ (n m : ℕ) (trace plan : List ℕ) (o : gate (callTests n m trace (len
     same-count : planCount (fileOf n m trace plan) ≡ length plan
     same-count = ap (λ (k : ℕ). wordAt (fileOf n m trace plan) (16 + 4 * k)) (front-parts .3) ∙ back-parts .0
 
-    same-requests : requestsIn (fileOf n m trace plan) ≡ trace
+    pub same-requests : requestsIn (fileOf n m trace plan) ≡ trace
     unfolding requestsIn
     same-requests = ap (wordsAt (fileOf n m trace plan) 16) (front-parts .3) ∙ front-parts .4
 
-    same-plan : planIn (fileOf n m trace plan) ≡ plan
+    pub same-plan : planIn (fileOf n m trace plan) ≡ plan
     unfolding planIn
     same-plan = ap₂ (λ (t k : ℕ). wordsAt (fileOf n m trace plan) (16 + 4 * t + 4) k) (front-parts .3) same-count ∙ back-parts .1
 
@@ -217,6 +217,18 @@ room-open n m trace plan room o = (
   ltb-false room (length (fileOf n m trace plan)) (passes (writeTests n m trace plan room) 7 o (omega arith)),
 )
 
+-- where a writing is not refused, the call is in order and the first k bytes of the room are its file
+pub written-file : (n m k : ℕ) (trace plan room file : List ℕ) → writeOf n m trace plan (length room) ≡ Bytes k → take k (roomLeft n m trace plan room) ≡ file
+    → (gate (callTests n m trace (length plan)) ≡ Open) × (file ≡ fileOf n m trace plan)
+written-file n m k trace plan room file e f =
+    let (g, l) = bytes-open n m k trace plan (length room) e in
+    let (o, h) = room-open n m trace plan (length room) g in (
+      o,
+      sym f
+          ∙ ap (take k) (sym (write-done n m trace plan room o h .1))
+          ∙ take-at (fileOf n m trace plan) (drop (length (fileOf n m trace plan)) room) k l,
+    )
+
 -- "reading what it wrote gives the same values": the first k bytes of the room, for words of 32 bits and lists with room for both sections
 pub reading-what-was-written : (n m k : ℕ) (trace plan room file requests lent : List ℕ) → Below 4294967296 trace → Below 4294967296 plan
     → writeOf n m trace plan (length room) ≡ Bytes k → take k (roomLeft n m trace plan room) ≡ file
@@ -225,13 +237,7 @@ pub reading-what-was-written : (n m k : ℕ) (trace plan room file requests lent
     × (requestsLeft file requests (length lent) ≡ trace ++ drop (length trace) requests)
     × (planLeft file (length requests) lent ≡ plan ++ drop (length plan) lent)
 reading-what-was-written n m k trace plan room file requests lent wt wp e f ha hb =
-    let (g, l) = bytes-open n m k trace plan (length room) e in
-    let (o, h) = room-open n m trace plan (length room) g in
-    let same : file ≡ fileOf n m trace plan =
-    sym f
-    ∙ ap (take k) (sym (write-done n m trace plan room o h .1))
-    ∙ take-at (fileOf n m trace plan) (drop (length (fileOf n m trace plan)) room) k l
-    in rw same (read-back n m trace plan o wt wp requests lent ha hb)
+    let (o, same) = written-file n m k trace plan room file e f in rw same (read-back n m trace plan o wt wp requests lent ha hb)
 
 -- ---- writing what was read
 
@@ -266,6 +272,24 @@ module _ (file : List ℕ) (a b : ℕ) (d : Accepted file a b) where
       ∙ ap bytesIn all-words
       ∙ bytes-back (suc (suc (suc (suc (requestCount file)))) + suc (planCount file)) file s l
 
+-- where a reading is not refused, the sizes are the file's, and so are the words in front of both lists
+pub read-words : (file requests lent : List ℕ) (sizes : Sizes) → readOf file (length requests) (length lent) ≡ Bundle sizes
+    → (sizesOf file ≡ sizes)
+    × (take (sizes .requests) (requestsLeft file requests (length lent)) ≡ requestsIn file)
+    × (take (sizes .planned) (planLeft file (length requests) lent) ≡ planIn file)
+unfolding requestsIn planIn
+read-words file requests lent sizes e =
+    let (o, z) = bundle-open file (length requests) (length lent) sizes e in
+    let done = read-done file requests lent o in (
+      z,
+      ap (λ (y : Sizes). take (y .requests) (requestsLeft file requests (length lent))) (sym z)
+          ∙ ap (take (requestCount file)) (sym (done .1))
+          ∙ take-at (wordsAt file 16 (requestCount file)) (drop (requestCount file) requests) (requestCount file) (length-words file 16 (requestCount file)),
+      ap (λ (y : Sizes). take (y .planned) (planLeft file (length requests) lent)) (sym z)
+          ∙ ap (take (planCount file)) (sym (done .2))
+          ∙ take-at (wordsAt file (planPlace file + 4) (planCount file)) (drop (planCount file) lent) (planCount file) (length-words file (planPlace file + 4) (planCount file)),
+    )
+
 -- "writing what was read gives the same bytes": for every accepted file, its values written into a room that is large enough
 pub writing-what-was-read : (file requests lent room : List ℕ) (sizes : Sizes) (trace plan : List ℕ) → Below 256 file
     → readOf file (length requests) (length lent) ≡ Bundle sizes
@@ -274,23 +298,11 @@ pub writing-what-was-read : (file requests lent room : List ℕ) (sizes : Sizes)
     → length file ≤ length room
     → (writeOf (sizes .n) (sizes .m) trace plan (length room) ≡ Bytes (length file))
     × (roomLeft (sizes .n) (sizes .m) trace plan room ≡ file ++ drop (length file) room)
-unfolding requestsIn planIn
 writing-what-was-read file requests lent room sizes trace plan s e f g h =
-    let (o, z) = bundle-open file (length requests) (length lent) sizes e in
-    let d = accepted file (length requests) (length lent) o in
-    let done = read-done file requests lent o in
-    let t : trace ≡ requestsIn file =
-    sym f
-    ∙ ap (λ (y : Sizes). take (y .requests) (requestsLeft file requests (length lent))) (sym z)
-    ∙ ap (take (requestCount file)) (sym (done .1))
-    ∙ take-at (wordsAt file 16 (requestCount file)) (drop (requestCount file) requests) (requestCount file) (length-words file 16 (requestCount file))
-    in
-    let p : plan ≡ planIn file =
-    sym g
-    ∙ ap (λ (y : Sizes). take (y .planned) (planLeft file (length requests) lent)) (sym z)
-    ∙ ap (take (planCount file)) (sym (done .2))
-    ∙ take-at (wordsAt file (planPlace file + 4) (planCount file)) (drop (planCount file) lent) (planCount file) (length-words file (planPlace file + 4) (planCount file))
-    in
+    let d = accepted file (length requests) (length lent) (bundle-open file (length requests) (length lent) sizes e .0) in
+    let (z, there, then) = read-words file requests lent sizes e in
+    let t : trace ≡ requestsIn file = sym f ∙ there in
+    let p : plan ≡ planIn file = sym g ∙ then in
     let same = same-bytes file (length requests) (length lent) d s in
     let w =
     write-done (wordAt file 4) (wordAt file 8) (requestsIn file) (planIn file) room (again-open file (length requests) (length lent) d)

@@ -1,7 +1,7 @@
 -- Document 01, "Bundle file": what reading a file answers, and what it leaves in the two lent lists.
 --
 -- In order: where the sections of a file stand; the chain of refusals (each test beside its refusal, the first that is true decides); the
--- answer. Everything is a function of the file's bytes and of what was lent, so a file has one reading.
+-- answer. Everything is a function of the file's bytes and of what was lent; that a file has one reading is proved in proofs/OneReading.antt.
 -- Assumes nothing.
 use mathlib.Core.List.{List, [], _∷_, _++_}
 use mathlib.Core.Bool.{Bool, true}
