@@ -4,3 +4,4 @@ pub mod Phases
 pub mod RuleSide
 pub mod Bound
 pub mod Answers
+pub mod Written
