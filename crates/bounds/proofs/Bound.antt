@@ -2,7 +2,8 @@
 -- empty. Then (n - m + 1) times the LRU faults with n frames is at most n times the plan's faults, plus n times m. The same holds for FIFO."
 --
 -- The statement is specs/Bound.antt; proofs/Phases.antt has it with a factor c, for any frugal rule.
--- After D. Sleator and R. Tarjan, "Amortized efficiency of list update and paging rules", 1985.
+-- After D. Sleator and R. Tarjan, "Amortized Efficiency of List Update and Paging Rules", 1985; the factor c is from J. Boyar, M. Ehmsen and K. Larsen,
+-- "Theoretical Evidence for the Superiority of LRU-2 over LRU for the Paging Problem", 2006.
 -- Assumes nothing.
 use Prim.Native.Nat.{ℕ}
 use native.Mathlib.Omega.{arith}
