@@ -1,2 +1,3 @@
+-- Demand 3 as statements: over the definitions, and over the answers of the services.
 pub mod Bound
 pub mod Answers

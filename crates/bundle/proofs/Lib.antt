@@ -1,3 +1,4 @@
+-- What the proofs of the bundle file use, and the laws of reading and writing it.
 pub mod Bytes
 pub mod Chains
 pub mod Back

@@ -1,3 +1,4 @@
+-- What the contracts of the bundle file cite.
 pub mod Bytes
 pub mod Reading
 pub mod Writing

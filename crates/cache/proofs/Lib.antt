@@ -1,3 +1,4 @@
+-- What the proofs of the cache record use, and the laws of soundness and of Feed.
 pub mod Long
 pub mod All
 pub mod Seen

@@ -1,3 +1,4 @@
+-- What the contracts of the cache record cite.
 pub mod Record
 pub mod Sound
 pub mod Scan

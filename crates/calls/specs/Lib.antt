@@ -1,2 +1,3 @@
+-- What the contracts of the chain of refusals cite.
 pub mod Chain
 pub mod Answers

@@ -1,2 +1,3 @@
+-- What the contracts of Check and Better of two cite.
 pub mod Check
 pub mod Better

@@ -1,3 +1,4 @@
+-- What the proofs of MIN over a whole trace use, and that its walk is rule 3's.
 pub mod Farthest
 pub mod Scan
 pub mod Serving

@@ -1,2 +1,3 @@
+-- What the contracts of MIN over a whole trace cite.
 pub mod Farthest
 pub mod Turns

@@ -1,3 +1,4 @@
+-- Laws of the rules, the walk, plans and calls, and what proofs of other crates use.
 pub mod Lists
 pub mod Choice
 pub mod Held

@@ -1,3 +1,4 @@
+-- Document 01's definitions, which the contracts of the other crates cite, and its worked cases.
 pub mod Lists
 pub mod Refusals
 pub mod Rules

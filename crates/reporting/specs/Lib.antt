@@ -1,3 +1,4 @@
+-- What the contracts of the report's text cite, and worked cases of it.
 pub mod Putting
 pub mod Report
 pub mod Cases

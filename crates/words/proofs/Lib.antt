@@ -1,2 +1,3 @@
+-- What the proofs of words in a file's bytes use.
 pub mod Bytes
 pub mod Places

@@ -1,2 +1,3 @@
+-- What the contracts of words in a file's bytes cite.
 pub mod Bytes
 pub mod Places
