@@ -9,7 +9,9 @@ ghost use Rattle.paging.specs.Services.{answered, laid, written};
 ghost use Rattle.paging.specs.declared.Rule.the-variants.{Min};
 ghost use Rattle.minimum.specs.Turns.{turnOf, goesBefore, noneKept, putAt, Fair, Stepped};
 use paging::Answer;
+use paging::Frame;
 use paging::Gate;
+use paging::Moment;
 use paging::Outcome;
 use paging::Page;
 
@@ -27,25 +29,26 @@ struct Served {
 }
 
 // The moment of a page's next request from a moment on; the trace's length, if it never comes.
-fn next_request(trace: &[u32], from: usize, page: u32) -> u32
-    requires { ⌜ (from ≤ length (now trace)) × (length (now trace) ≤ 8000) ⌝ }
-    ensures { λ r. ⌜ (r ≡ turnOf (now (trace .entry)) from page) × (r ≤ length (now (trace .entry))) ⌝ }
+fn next_request(trace: &[u32], from: Moment, page: Page) -> Moment
+    requires { ⌜ (from .0 ≤ length (now trace)) × (length (now trace) ≤ 8000) ⌝ }
+    ensures { λ r. ⌜ (r .0 ≡ turnOf (now (trace .entry)) (from .0) (page .0)) × (r .0 ≤ length (now (trace .entry))) ⌝ }
 {
-    let later = &trace[from..];
-    (from + calls::place_of(page, later)) as u32
+    let start = from.0 as usize;
+    let later = &trace[start..];
+    Moment((start + calls::place_of(page.0, later)) as u32)
 }
 
 // Whether the first goes before the second: its turn is later, or the same and its number lower.
-fn beyond(turn: u32, page: u32, other: u32, rival: u32) -> bool
-    ensures { λ r. ⌜ r ≡ goesBefore turn page other rival ⌝ }
+fn beyond(turn: Moment, page: Page, other: Moment, rival: Page) -> bool
+    ensures { λ r. ⌜ r ≡ goesBefore (turn .0) (page .0) (other .0) (rival .0) ⌝ }
 {
-    if other < turn {
+    if other.0 < turn.0 {
         return true;
     }
-    if turn < other {
+    if turn.0 < other.0 {
         return false;
     }
-    page < rival
+    page.0 < rival.0
 }
 
 impl Kept {
@@ -61,50 +64,51 @@ impl Kept {
     }
 
     // The frame whose turn is latest; of several with the same turn, that of the lowest page number.
-    fn farthest(self) -> usize
+    fn farthest(self) -> Frame
         requires { ⌜ (0 < self .count) × (self .count ≤ 256) ⌝ }
-        ensures { λ r. ⌜ (r < self .count) × ((j : ℕ) → j < self .count → (getD (self .turns) j 0 < getD (self .turns) r 0) ⊎ ((getD (self .turns) j 0 ≡ getD (self .turns) r 0) × (getD (self .pages) r 0 ≤ getD (self .pages) j 0))) ⌝ }
+        ensures { λ r. ⌜ (r .0 < self .count) × ((j : ℕ) → j < self .count → (getD (self .turns) j 0 < getD (self .turns) (r .0) 0) ⊎ ((getD (self .turns) j 0 ≡ getD (self .turns) (r .0) 0) × (getD (self .pages) (r .0) 0 ≤ getD (self .pages) j 0))) ⌝ }
     {
         let count = self.count as usize;
         let mut best: usize = 0;
         let mut i: usize = 1;
         while i < count {
             if beyond(
-                self.turns[i],
-                self.pages[i],
-                self.turns[best],
-                self.pages[best],
+                Moment(self.turns[i]),
+                Page(self.pages[i]),
+                Moment(self.turns[best]),
+                Page(self.pages[best]),
             ) {
                 best = i;
             }
             i += 1;
         }
-        best
+        Frame(best as u32)
     }
 
     // A page and its turn written into a frame.
-    fn put(self, at: usize, page: u32, turn: u32, count: u32) -> Kept
-        requires { ⌜ at < 256 ⌝ }
-        ensures { λ r. ⌜ r ≡ putAt self at page turn count ⌝ }
+    fn put(self, at: Frame, page: Page, turn: Moment, count: u32) -> Kept
+        requires { ⌜ at .0 < 256 ⌝ }
+        ensures { λ r. ⌜ r ≡ putAt self (at .0) (page .0) (turn .0) count ⌝ }
     {
+        let i = at.0 as usize;
         let mut next = self;
-        next.pages[at] = page;
-        next.turns[at] = turn;
+        next.pages[i] = page.0;
+        next.turns[i] = turn.0;
         next.count = count;
         next
     }
 
     // The request of moment t: a hit, a load with room, or a load in place of the page whose turn is latest.
-    fn served(self, n: u32, trace: &[u32], t: usize) -> Served
-        requires { ⌜ (Fair n (now trace) t self) × (1 ≤ n) × (n ≤ 256) × (t < length (now trace)) × (length (now trace) ≤ 8000) ⌝ }
-        ensures { λ r. ⌜ Stepped n (now (trace .entry)) t self (r .outcome) (r .next) ⌝ }
+    fn served(self, n: u32, trace: &[u32], t: Moment) -> Served
+        requires { ⌜ (Fair n (now trace) (t .0) self) × (1 ≤ n) × (n ≤ 256) × (t .0 < length (now trace)) × (length (now trace) ≤ 8000) ⌝ }
+        ensures { λ r. ⌜ Stepped n (now (trace .entry)) (t .0) self (r .outcome) (r .next) ⌝ }
     {
-        let page = trace[t];
-        let turn = next_request(trace, t + 1, page);
+        let page = Page(trace[t.0 as usize]);
+        let turn = next_request(trace, Moment(t.0 + 1), page);
         let pages = self.pages;
         let count = self.count;
-        let at = calls::place_of(page, &pages[..count as usize]);
-        if at < count as usize {
+        let at = Frame(calls::place_of(page.0, &pages[..count as usize]) as u32);
+        if at.0 < count {
             return Served {
                 outcome: Outcome::Hit,
                 next: self.put(at, page, turn, count),
@@ -113,12 +117,12 @@ impl Kept {
         if count < n {
             return Served {
                 outcome: Outcome::Loaded,
-                next: self.put(count as usize, page, turn, count + 1),
+                next: self.put(Frame(count), page, turn, count + 1),
             };
         }
         let far = self.farthest();
         Served {
-            outcome: Outcome::Dropped(Page(pages[far])),
+            outcome: Outcome::Dropped(Page(pages[far.0 as usize])),
             next: self.put(far, page, turn, count),
         }
     }
@@ -133,7 +137,7 @@ fn walked(n: u32, trace: &[u32], words: &mut [u32]) -> u32
     let mut faults: u32 = 0;
     let mut i: usize = 0;
     while i < trace.len() {
-        let a = cur.served(n, trace, i);
+        let a = cur.served(n, trace, Moment(i as u32));
         let o = a.outcome;
         faults += o.fault();
         if i < words.len() {

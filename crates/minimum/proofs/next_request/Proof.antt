@@ -13,18 +13,25 @@ use Rattle.minimum.proofs.Farthest.{place-next}
 use Rattle.minimum.proofs.next_request.Statement.{statement}
 use Rattle.minimum.proofs.next_request.Tie as tie
 
+-- what the call began with
+abbrev call-of : tie.After-place-of → tie.Start
+call-of c = c .before .before .before .before
+
 -- how far off the page is found
 off : (c : tie.After-place-of)
-    → (c .place-of .result ≡ nextOf (drop (c .before .before .before .args .from) (c .before .before .before .args .trace .now)) (c .before .before .before .args .page))
-    × (c .before .before .before .args .from + c .place-of .result ≤ length (c .before .before .before .args .trace .now))
+    → (c .place-of .result ≡ nextOf (drop (call-of c .args .from .0) (call-of c .args .trace .now)) (call-of c .args .page .0))
+    × (call-of c .args .from .0 + c .place-of .result ≤ length (call-of c .args .trace .now))
 off c =
-    let s = c .before .before .before in
+    let s = call-of c in
     let trace = s .args .trace .now in
-    let rest = drop (s .args .from) trace in
-    let short : length rest ≤ length trace - s .args .from = omega (arith, length-drop (s .args .from) trace) in
-    let e : c .place-of .result ≡ nextOf rest (s .args .page) =
-    c .place-of .ensures ∙ ap (placeOf (s .args .page)) (take-all _ rest short) ∙ place-next (s .args .page) rest in
-    (e, omega (arith, next-le rest (s .args .page), length-drop (s .args .from) trace))
+    let rest = drop (s .args .from .0) trace in
+    let short : length rest ≤ length trace - s .args .from .0 = omega (arith, length-drop (s .args .from .0) trace) in
+    let e : c .place-of .result ≡ nextOf rest (s .args .page .0) =
+    c .place-of .ensures ∙ ap (placeOf (s .args .page .0)) (take-all _ rest short) ∙ place-next (s .args .page .0) rest in
+    (e, omega (arith, next-le rest (s .args .page .0), length-drop (s .args .from .0) trace))
+
+cast-start : tie.Need-cast-start
+cast-start c = search needs
 
 mul-later : tie.Need-mul-later
 mul-later c = search needs
@@ -41,24 +48,25 @@ part-later-end c = search needs
 place-of-requires : tie.Need-place-of-requires
 place-of-requires c κs = search needs
 
-add-result : tie.Need-add-result
-add-result c = omega (arith, off c .1)
+add-t8 : tie.Need-add-t8
+add-t8 c = omega (arith, off c .1)
 
-cast-result : tie.Need-cast-result
-cast-result c = omega (arith, off c .1)
+cast-t10 : tie.Need-cast-t10
+cast-t10 c = omega (arith, off c .1)
 
 returns : tie.Need-returns
-returns c = (ap (λ (k : ℕ). c .before .before .before .args .from + k) (off c .0), off c .1)
+returns c = (ap (λ (k : ℕ). call-of c .args .from .0 + k) (off c .0), off c .1)
 
 pub next-request-spec : {M : Type 1} → statement M
 next-request-spec =
     tie.close
     (tie.spec
+    cast-start
     mul-later
     sub-later
     part-later-start
     part-later-end
     place-of-requires
-    add-result
-    cast-result
+    add-t8
+    cast-t10
     returns)

@@ -23,6 +23,9 @@ loop-holds c =
     let s = c .before .before .before in
     rw (c .none .ensures) (s .pre .0, s .pre .1, s .pre .2, running-starts (s .args .n) (s .args .trace .now) (s .args .words .now))
 
+cast-faults : tie.Need-cast-faults Inv-loop μ-loop
+cast-faults c = let inv = c .before .loop .inv in omega (arith, inv .2)
+
 served-requires : tie.Need-served-requires Inv-loop μ-loop
 served-requires c κs =
     let loop = c .before .loop in
@@ -88,6 +91,7 @@ walked-spec =
     μ-loop
     none-requires
     loop-holds
+    cast-faults
     served-requires
     fault-requires
     add-faults

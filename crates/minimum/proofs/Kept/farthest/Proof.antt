@@ -22,29 +22,29 @@ cast-count c = search needs
 loop-holds : tie.Need-loop-holds Inv-loop μ-loop
 loop-holds c = (omega arith, c .pre .0, c .pre .1, behind-first (c .args .t1 .turns) (c .args .t1 .pages))
 
-mul-beyond : tie.Need-mul-beyond Inv-loop μ-loop
-mul-beyond c = search needs
+mul-t9 : tie.Need-mul-t9 Inv-loop μ-loop
+mul-t9 c = search needs
 
-element-copy-out-beyond : tie.Need-element-copy-out-beyond Inv-loop μ-loop
-element-copy-out-beyond c = search needs
+element-copy-out-t12 : tie.Need-element-copy-out-t12 Inv-loop μ-loop
+element-copy-out-t12 c = search needs
 
-mul-beyond-2 : tie.Need-mul-beyond-2 Inv-loop μ-loop
-mul-beyond-2 c = search needs
+mul-t14 : tie.Need-mul-t14 Inv-loop μ-loop
+mul-t14 c = search needs
 
-element-copy-out-beyond-2 : tie.Need-element-copy-out-beyond-2 Inv-loop μ-loop
-element-copy-out-beyond-2 c = search needs
+element-copy-out-t17 : tie.Need-element-copy-out-t17 Inv-loop μ-loop
+element-copy-out-t17 c = search needs
 
-mul-beyond-3 : tie.Need-mul-beyond-3 Inv-loop μ-loop
-mul-beyond-3 c = search needs
+mul-t19 : tie.Need-mul-t19 Inv-loop μ-loop
+mul-t19 c = search needs
 
-element-copy-out-beyond-3 : tie.Need-element-copy-out-beyond-3 Inv-loop μ-loop
-element-copy-out-beyond-3 c = search needs
+element-copy-out-t22 : tie.Need-element-copy-out-t22 Inv-loop μ-loop
+element-copy-out-t22 c = search needs
 
-mul-beyond-4 : tie.Need-mul-beyond-4 Inv-loop μ-loop
-mul-beyond-4 c = search needs
+mul-t24 : tie.Need-mul-t24 Inv-loop μ-loop
+mul-t24 c = search needs
 
-element-copy-out-beyond-4 : tie.Need-element-copy-out-beyond-4 Inv-loop μ-loop
-element-copy-out-beyond-4 c = search needs
+element-copy-out-t27 : tie.Need-element-copy-out-t27 Inv-loop μ-loop
+element-copy-out-t27 c = search needs
 
 beyond-requires : tie.Need-beyond-requires Inv-loop μ-loop
 beyond-requires c κs = search needs
@@ -76,6 +76,9 @@ loop-again c =
     ))
     (c .if1 .came)
 
+cast-t6 : tie.Need-cast-t6 Inv-loop μ-loop
+cast-t6 c = search needs
+
 returns : tie.Need-returns Inv-loop μ-loop
 returns c = (omega arith, λ j h. c .before .loop .inv .3 j (omega arith))
 
@@ -87,16 +90,17 @@ farthest-spec =
     μ-loop
     cast-count
     loop-holds
-    mul-beyond
-    element-copy-out-beyond
-    mul-beyond-2
-    element-copy-out-beyond-2
-    mul-beyond-3
-    element-copy-out-beyond-3
-    mul-beyond-4
-    element-copy-out-beyond-4
+    mul-t9
+    element-copy-out-t12
+    mul-t14
+    element-copy-out-t17
+    mul-t19
+    element-copy-out-t22
+    mul-t24
+    element-copy-out-t27
     beyond-requires
     add-i
     loop-less
     loop-again
+    cast-t6
     returns)
