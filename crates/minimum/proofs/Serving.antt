@@ -13,11 +13,12 @@ use lib.Seq.{drop-cons, length-take-le, getD-take, getD-set-same, getD-set-other
 use borrow.Author.Tests.{lt-ltb, le-ltb}
 use Rattle.paging.specs.Rules.{nextOf}
 use Rattle.paging.specs.Plans.{mem, placeOf}
+use Rattle.paging.specs.declared.Moment.{Moment}
 use Rattle.paging.specs.declared.Outcome.the-variants.{Hit, Loaded, Dropped}
 use Rattle.paging.proofs.Held.{Apart, in-mem, place-holds, place-out, absent-in}
 use Rattle.minimum.specs.declared.Kept.{Kept}
 use Rattle.minimum.specs.Farthest.{farthest, minOutcome, minNext}
-use Rattle.minimum.specs.Turns.{turnOf, pagesOf, putAt, Fair, Stepped}
+use Rattle.minimum.specs.Turns.{turnOf, pagesOf, pageAt, turnAt, putAt, Fair, Stepped}
 use Rattle.minimum.proofs.Farthest.{next-nearer, farthest-is}
 use Rattle.minimum.proofs.Scan.{Behind}
 
@@ -39,7 +40,7 @@ module _
     held-length : length (pagesOf k) ≡ k .count
     held-length = length-take-le (k .count) (k .pages) (omega (arith, fair .few, fair .wide))
 
-    held-at : (i : ℕ) → i < k .count → getD (pagesOf k) i 0 ≡ getD (k .pages) i 0
+    held-at : (i : ℕ) → i < k .count → getD (pagesOf k) i 0 ≡ pageAt k i
     held-at i h = getD-take (k .count) (k .pages) i 0 h
 
     held-apart : Apart (pagesOf k)
@@ -54,19 +55,19 @@ module _
     turn-stays q e = omega (arith, ap (λ (xs : List ℕ). nextOf xs q) now-and-later, next-nearer q p rest e)
 
     -- the requested page goes into frame f, and all other frames in use hold other pages
-    module _ (f count : ℕ) (at : f < count) (few : count ≤ n) (others : (i : ℕ) → i < count → (i ≡ f → ⊥) → (i < k .count) × (getD (k .pages) i 0 ≡ p → ⊥)) where
+    module _ (f count : ℕ) (at : f < count) (few : count ≤ n) (others : (i : ℕ) → i < count → (i ≡ f → ⊥) → (i < k .count) × (pageAt k i ≡ p → ⊥)) where
       turn : ℕ
       turn = turnOf trace (t + 1) p
 
       page-here : getD (set (k .pages) f p) f 0 ≡ p
       page-here = getD-set-same (k .pages) f p 0 (omega (arith, fair .wide))
 
-      page-there : (i : ℕ) → (i ≡ f → ⊥) → getD (set (k .pages) f p) i 0 ≡ getD (k .pages) i 0
+      page-there : (i : ℕ) → (i ≡ f → ⊥) → getD (set (k .pages) f p) i 0 ≡ pageAt k i
       page-there i e = getD-set-other (k .pages) f i p 0 e
 
       fair-put : Fair n trace (t + 1) (putAt k f p turn count)
       unfolding turn
-      fair-put = record { wide = length-set (k .pages) f p ∙ fair .wide; deep = length-set (k .turns) f (turnOf trace (t + 1) p) ∙ fair .deep; few = few; apart = apart-put; in-turn = in-turn-put }
+      fair-put = record { wide = length-set (k .pages) f p ∙ fair .wide; deep = length-set (k .turns) f (record { 0 = turnOf trace (t + 1) p }) ∙ fair .deep; few = few; apart = apart-put; in-turn = in-turn-put }
         where
           apart-put : (i j : ℕ) → i < count → j < count → getD (set (k .pages) f p) i 0 ≡ getD (set (k .pages) f p) j 0 → i ≡ j
           apart-put i j h l e =
@@ -83,24 +84,24 @@ module _
                     ]
               ]
 
-          in-turn-put : (i : ℕ) → i < count → getD (set (k .turns) f (turnOf trace (t + 1) p)) i 0 ≡ turnOf trace (t + 1) (getD (set (k .pages) f p) i 0)
+          in-turn-put : (i : ℕ) → i < count → turnAt (putAt k f p (turnOf trace (t + 1) p) count) i ≡ turnOf trace (t + 1) (getD (set (k .pages) f p) i 0)
           in-turn-put i h =
               elim (ℕ-discrete i f) [
-                | yes x ↦ rw x (getD-set-same (k .turns) f (turnOf trace (t + 1) p) 0 (omega (arith, fair .deep)) ∙ ap (turnOf trace (t + 1)) (sym page-here))
+                | yes x ↦ rw x (ap (λ (m : Moment). m .0) (getD-set-same (k .turns) f (record { 0 = turnOf trace (t + 1) p }) (record { 0 = 0 }) (omega (arith, fair .deep))) ∙ ap (turnOf trace (t + 1)) (sym page-here))
                 | no x ↦
-                    getD-set-other (k .turns) f i (turnOf trace (t + 1) p) 0 x
+                    ap (λ (m : Moment). m .0) (getD-set-other (k .turns) f i (record { 0 = turnOf trace (t + 1) p }) (record { 0 = 0 }) x)
                     ∙ fair .in-turn i (others i h x .0)
-                    ∙ turn-stays (getD (k .pages) i 0) (λ e. others i h x .1 (sym e))
+                    ∙ turn-stays (pageAt k i) (λ e. others i h x .1 (sym e))
                     ∙ ap (turnOf trace (t + 1)) (sym (page-there i x))
               ]
 
     -- ---- the three ways
 
     -- a frame in use with another number holds another page
-    other-page : (f : ℕ) → f < k .count → getD (k .pages) f 0 ≡ p → (i : ℕ) → i < k .count → (i ≡ f → ⊥) → (i < k .count) × (getD (k .pages) i 0 ≡ p → ⊥)
+    other-page : (f : ℕ) → f < k .count → pageAt k f ≡ p → (i : ℕ) → i < k .count → (i ≡ f → ⊥) → (i < k .count) × (pageAt k i ≡ p → ⊥)
     other-page f h e i l x = (l, λ y. x (fair .apart i f l h (y ∙ sym e)))
 
-    absent-page : mem p (pagesOf k) ≡ false → (i : ℕ) → i < k .count → getD (k .pages) i 0 ≡ p → ⊥
+    absent-page : mem p (pagesOf k) ≡ false → (i : ℕ) → i < k .count → pageAt k i ≡ p → ⊥
     absent-page m i h e = absent-in p (pagesOf k) m (i, omega (arith, held-length), held-at i h ∙ e)
 
     pub served-hit : placeOf p (pagesOf k) < k .count → Stepped n trace t k Hit (putAt k (placeOf p (pagesOf k)) p (turnOf trace (t + 1) p) (k .count))
@@ -128,30 +129,30 @@ module _
         }
 
     pub served-full : k .count ≤ placeOf p (pagesOf k) → n ≤ k .count → (far : ℕ) → far < k .count
-        → ((j : ℕ) → j < k .count → Behind (k .turns) (k .pages) j far)
-        → Stepped n trace t k (Dropped (record { 0 = getD (k .pages) far 0 })) (putAt k far p (turnOf trace (t + 1) p) (k .count))
+        → ((j : ℕ) → j < k .count → Behind (turnAt k) (pageAt k) j far)
+        → Stepped n trace t k (Dropped (record { 0 = pageAt k far })) (putAt k far p (turnOf trace (t + 1) p) (k .count))
     unfolding rest minOutcome minNext turn
     served-full h r far g behind =
         let m : mem p (pagesOf k) ≡ false = place-out p (pagesOf k) (omega (arith, held-length)) in
         let l : n ≤ length (pagesOf k) = omega (arith, held-length) in
         let f : farthest rest (pagesOf k) ≡ far =
-        farthest-is rest (pagesOf k) held-apart (t + 1) (λ (j : ℕ). getD (k .turns) j 0) turns far (omega (arith, held-length)) behind-held in
+        farthest-is rest (pagesOf k) held-apart (t + 1) (turnAt k) turns far (omega (arith, held-length)) behind-held in
         record {
           told = rw (m, le-ltb (length (pagesOf k)) n l, f, held-at far g);
           held = rw (m, le-ltb (length (pagesOf k)) n l, f) (take-set-lt (k .count) (k .pages) far p g);
           fair = fair-put far (k .count) g (fair .few) (λ i a x. (a, absent-page m i a));
         }
       where
-        absent-now : (j : ℕ) → j < k .count → getD (k .pages) j 0 ≡ p → ⊥
+        absent-now : (j : ℕ) → j < k .count → pageAt k j ≡ p → ⊥
         absent-now = absent-page (place-out p (pagesOf k) (omega (arith, held-length)))
 
-        turns : (j : ℕ) → j < length (pagesOf k) → getD (k .turns) j 0 ≡ (t + 1) + nextOf rest (getD (pagesOf k) j 0)
+        turns : (j : ℕ) → j < length (pagesOf k) → turnAt k j ≡ (t + 1) + nextOf rest (getD (pagesOf k) j 0)
         turns j a =
             let b : j < k .count = omega (arith, held-length) in
-            fair .in-turn j b ∙ turn-stays (getD (k .pages) j 0) (λ e. absent-now j b (sym e)) ∙ ap (turnOf trace (t + 1)) (sym (held-at j b))
+            fair .in-turn j b ∙ turn-stays (pageAt k j) (λ e. absent-now j b (sym e)) ∙ ap (turnOf trace (t + 1)) (sym (held-at j b))
 
         behind-held : (j : ℕ) → j < length (pagesOf k)
-            → (getD (k .turns) j 0 < getD (k .turns) far 0) ⊎ ((getD (k .turns) j 0 ≡ getD (k .turns) far 0) × (getD (pagesOf k) far 0 ≤ getD (pagesOf k) j 0))
+            → (turnAt k j < turnAt k far) ⊎ ((turnAt k j ≡ turnAt k far) × (getD (pagesOf k) far 0 ≤ getD (pagesOf k) j 0))
         behind-held j a =
             let b : j < k .count = omega (arith, held-length) in
             ⊎-elim inl (λ w. inr (w .0, omega (arith, held-at j b, held-at far g))) (behind j b)

@@ -24,21 +24,29 @@ goesBefore turn page other rival = pick (ltb other turn) true (pick (ltb turn ot
 abbrev pub pagesOf : Kept → List ℕ
 pagesOf k = take (k .count) (k .pages)
 
+-- the page that stands in frame i
+abbrev pub pageAt : Kept → ℕ → ℕ
+pageAt k i = getD (k .pages) i 0
+
+-- its turn
+abbrev pub turnAt : Kept → ℕ → ℕ
+turnAt k i = getD (k .turns) i (record { 0 = 0 }) .0
+
 -- nothing held
 abbrev pub noneKept : Kept
-noneKept = record { pages = replicate 256 0; turns = replicate 256 0; count = 0 }
+noneKept = record { pages = replicate 256 0; turns = replicate 256 (record { 0 = 0 }); count = 0 }
 
 -- a page and its turn written into a frame
 abbrev pub putAt : Kept → ℕ → ℕ → ℕ → ℕ → Kept
-putAt k at page turn count = record { pages = set (k .pages) at page; turns = set (k .turns) at turn; count = count }
+putAt k at page turn count = record { pages = set (k .pages) at page; turns = set (k .turns) at (record { 0 = turn }); count = count }
 
 -- just before moment t: at most n pages, none twice, each beside its turn
 pub record Fair (n : ℕ) (trace : List ℕ) (t : ℕ) (k : Kept) : Type 0 where
   pub wide : length (k .pages) ≡ 256
   pub deep : length (k .turns) ≡ 256
   pub few : k .count ≤ n
-  pub apart : (i j : ℕ) → i < k .count → j < k .count → getD (k .pages) i 0 ≡ getD (k .pages) j 0 → i ≡ j
-  pub in-turn : (i : ℕ) → i < k .count → getD (k .turns) i 0 ≡ turnOf trace t (getD (k .pages) i 0)
+  pub apart : (i j : ℕ) → i < k .count → j < k .count → pageAt k i ≡ pageAt k j → i ≡ j
+  pub in-turn : (i : ℕ) → i < k .count → turnAt k i ≡ turnOf trace t (pageAt k i)
 
 -- the request of moment t, served: its outcome, the pages held after it, each beside its turn
 pub record Stepped (n : ℕ) (trace : List ℕ) (t : ℕ) (k : Kept) (outcome : Outcome) (after : Kept) : Type 0 where

@@ -2,12 +2,12 @@
 ghost use mathlib.Core.Path.{_≡_};
 ghost use mathlib.Core.Logic.{_⊎_};
 ghost use Prim.Native.Nat.{ℕ, _≤_, _<_};
-ghost use lib.ListN.{length, getD};
+ghost use lib.ListN.{length};
 ghost use Rattle.paging.specs.Walk.{faults, plan};
 ghost use Rattle.paging.specs.Calls.{traceTests};
 ghost use Rattle.paging.specs.Services.{answered, laid, written};
 ghost use Rattle.paging.specs.declared.Rule.the-variants.{Min};
-ghost use Rattle.minimum.specs.Turns.{turnOf, goesBefore, noneKept, putAt, Fair, Stepped};
+ghost use Rattle.minimum.specs.Turns.{turnOf, goesBefore, pageAt, turnAt, noneKept, putAt, Fair, Stepped};
 use paging::Answer;
 use paging::Frame;
 use paging::Gate;
@@ -15,10 +15,10 @@ use paging::Moment;
 use paging::Outcome;
 use paging::Page;
 
-// The held pages, their turns, and how many there are.
+// The held pages, their turns, and how many there are. The pages are plain words, since they are searched as a slice.
 struct Kept {
     pub pages: [u32; 256],
-    pub turns: [u32; 256],
+    pub turns: [Moment; 256],
     pub count: u32,
 }
 
@@ -58,7 +58,7 @@ impl Kept {
     {
         Kept {
             pages: [0; 256],
-            turns: [0; 256],
+            turns: [Moment(0); 256],
             count: 0,
         }
     }
@@ -66,16 +66,16 @@ impl Kept {
     // The frame whose turn is latest; of several with the same turn, that of the lowest page number.
     fn farthest(self) -> Frame
         requires { ⌜ (0 < self .count) × (self .count ≤ 256) ⌝ }
-        ensures { λ r. ⌜ (r .0 < self .count) × ((j : ℕ) → j < self .count → (getD (self .turns) j 0 < getD (self .turns) (r .0) 0) ⊎ ((getD (self .turns) j 0 ≡ getD (self .turns) (r .0) 0) × (getD (self .pages) (r .0) 0 ≤ getD (self .pages) j 0))) ⌝ }
+        ensures { λ r. ⌜ (r .0 < self .count) × ((j : ℕ) → j < self .count → (turnAt self j < turnAt self (r .0)) ⊎ ((turnAt self j ≡ turnAt self (r .0)) × (pageAt self (r .0) ≤ pageAt self j))) ⌝ }
     {
         let count = self.count as usize;
         let mut best: usize = 0;
         let mut i: usize = 1;
         while i < count {
             if beyond(
-                Moment(self.turns[i]),
+                self.turns[i],
                 Page(self.pages[i]),
-                Moment(self.turns[best]),
+                self.turns[best],
                 Page(self.pages[best]),
             ) {
                 best = i;
@@ -93,7 +93,7 @@ impl Kept {
         let i = at.0 as usize;
         let mut next = self;
         next.pages[i] = page.0;
-        next.turns[i] = turn.0;
+        next.turns[i] = turn;
         next.count = count;
         next
     }

@@ -5,13 +5,14 @@ use mathlib.Core.Logic.{⊎-elim}
 use Prim.Native.Nat.{ℕ, _≤_, _<_, _-_}
 use native.Mathlib.Omega.{arith}
 use borrow.Author.Needs.{needs}
+use Rattle.minimum.specs.Turns.{pageAt, turnAt}
 use Rattle.minimum.proofs.Scan.{Behind, behind-first, behind-new, behind-old}
 use Rattle.minimum.proofs.Kept.farthest.Statement.{statement}
 use Rattle.minimum.proofs.Kept.farthest.Tie as tie
 
 abbrev Inv-loop : tie.InvT-loop
 Inv-loop self count best₀ i₀ best i =
-    (best < i) × (i ≤ count) × (count ≤ 256) × ((j : ℕ) → j < i → Behind (self .turns) (self .pages) j best)
+    (best < i) × (i ≤ count) × (count ≤ 256) × ((j : ℕ) → j < i → Behind (turnAt self) (pageAt self) j best)
 
 abbrev μ-loop : tie.MeasureT-loop
 μ-loop self count best₀ i₀ best i = count - i
@@ -20,31 +21,31 @@ cast-count : tie.Need-cast-count Inv-loop μ-loop
 cast-count c = search needs
 
 loop-holds : tie.Need-loop-holds Inv-loop μ-loop
-loop-holds c = (omega arith, c .pre .0, c .pre .1, behind-first (c .args .t1 .turns) (c .args .t1 .pages))
+loop-holds c = (omega arith, c .pre .0, c .pre .1, behind-first (turnAt (c .args .t1)) (pageAt (c .args .t1)))
 
-mul-t9 : tie.Need-mul-t9 Inv-loop μ-loop
-mul-t9 c = search needs
+mul-beyond : tie.Need-mul-beyond Inv-loop μ-loop
+mul-beyond c = search needs
 
-element-copy-out-t12 : tie.Need-element-copy-out-t12 Inv-loop μ-loop
-element-copy-out-t12 c = search needs
+element-copy-out-beyond : tie.Need-element-copy-out-beyond Inv-loop μ-loop
+element-copy-out-beyond c = search needs
 
-mul-t14 : tie.Need-mul-t14 Inv-loop μ-loop
-mul-t14 c = search needs
+mul-t13 : tie.Need-mul-t13 Inv-loop μ-loop
+mul-t13 c = search needs
 
-element-copy-out-t17 : tie.Need-element-copy-out-t17 Inv-loop μ-loop
-element-copy-out-t17 c = search needs
+element-copy-out-t16 : tie.Need-element-copy-out-t16 Inv-loop μ-loop
+element-copy-out-t16 c = search needs
 
-mul-t19 : tie.Need-mul-t19 Inv-loop μ-loop
-mul-t19 c = search needs
+mul-beyond-2 : tie.Need-mul-beyond-2 Inv-loop μ-loop
+mul-beyond-2 c = search needs
 
-element-copy-out-t22 : tie.Need-element-copy-out-t22 Inv-loop μ-loop
-element-copy-out-t22 c = search needs
+element-copy-out-beyond-2 : tie.Need-element-copy-out-beyond-2 Inv-loop μ-loop
+element-copy-out-beyond-2 c = search needs
 
-mul-t24 : tie.Need-mul-t24 Inv-loop μ-loop
-mul-t24 c = search needs
+mul-t22 : tie.Need-mul-t22 Inv-loop μ-loop
+mul-t22 c = search needs
 
-element-copy-out-t27 : tie.Need-element-copy-out-t27 Inv-loop μ-loop
-element-copy-out-t27 c = search needs
+element-copy-out-t25 : tie.Need-element-copy-out-t25 Inv-loop μ-loop
+element-copy-out-t25 c = search needs
 
 beyond-requires : tie.Need-beyond-requires Inv-loop μ-loop
 beyond-requires c κs = search needs
@@ -65,14 +66,14 @@ loop-again c =
       omega arith,
       omega arith,
       loop .inv .2,
-      behind-new (s .args .t1 .turns) (s .args .t1 .pages) (loop .i) (loop .best) (loop .inv .3) (sym (c .before .beyond .ensures) ∙ w .0 .taken),
+      behind-new (turnAt (s .args .t1)) (pageAt (s .args .t1)) (loop .i) (loop .best) (loop .inv .3) (sym (c .before .beyond .ensures) ∙ w .0 .taken),
     ))
     (λ w.
     rw (w .1) (
       omega arith,
       omega arith,
       loop .inv .2,
-      behind-old (s .args .t1 .turns) (s .args .t1 .pages) (loop .i) (loop .best) (loop .inv .3) (sym (c .before .beyond .ensures) ∙ w .0 .left),
+      behind-old (turnAt (s .args .t1)) (pageAt (s .args .t1)) (loop .i) (loop .best) (loop .inv .3) (sym (c .before .beyond .ensures) ∙ w .0 .left),
     ))
     (c .if1 .came)
 
@@ -90,14 +91,14 @@ farthest-spec =
     μ-loop
     cast-count
     loop-holds
-    mul-t9
-    element-copy-out-t12
-    mul-t14
-    element-copy-out-t17
-    mul-t19
-    element-copy-out-t22
-    mul-t24
-    element-copy-out-t27
+    mul-beyond
+    element-copy-out-beyond
+    mul-t13
+    element-copy-out-t16
+    mul-beyond-2
+    element-copy-out-beyond-2
+    mul-t22
+    element-copy-out-t25
     beyond-requires
     add-i
     loop-less
