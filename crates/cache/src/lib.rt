@@ -27,7 +27,7 @@ pub struct Cache {
     pub frames: u32,
     pub clock: u32,
     pub held: u32,
-    pub entries: [Entry; 256],
+    pub entries: [Entry; Cache::FRAMES as usize],
 }
 
 // What Fresh hands back: the empty cache, or a refusal beside the blank record.
@@ -130,9 +130,10 @@ fn feedable(rule: u32) -> bool
 }
 
 impl Cache {
-    pub const FRAMES: u32 = 256;
+    // The limits of every call; a record has so many entries, and its clock ends at so many requests.
+    pub const FRAMES: u32 = calls::FRAMES;
 
-    pub const REQUESTS: u32 = 8000;
+    pub const REQUESTS: u32 = calls::REQUESTS as u32;
 
     // Rule, frames, clock and held zero, every entry all marks.
     pub fn blank() -> Cache
@@ -146,7 +147,7 @@ impl Cache {
         ensures { λ r. ⌜ r ≡ emptyCache rule frames ⌝ }
     {
         let blank = blank_entry();
-        let entries = [blank; 256];
+        let entries = [blank; Cache::FRAMES as usize];
         Cache {
             rule: rule,
             frames: frames,

@@ -152,12 +152,12 @@ impl Cache {
     }
 
     // The pages side by side, to be lent.
-    fn pages(self) -> [u32; 256]
+    fn pages(self) -> [u32; Cache::FRAMES as usize]
         ensures { λ r. ⌜ r ≡ pages (self .entries) ⌝ }
     {
-        let mut words = [0u32; 256];
+        let mut words = [0u32; Cache::FRAMES as usize];
         let mut i = 0;
-        while i < 256 {
+        while i < Cache::FRAMES as usize {
             words[i] = self.entries[i].page.0;
             i += 1;
         }
@@ -188,7 +188,7 @@ impl Cache {
         ensures { λ r. ⌜ r ≡ all allMarks (drop (heldOf self) (self .entries)) ⌝ }
     {
         let mut i = self.held as usize;
-        while i < 256 {
+        while i < Cache::FRAMES as usize {
             let e = self.entries[i];
             if !all_marks(e) {
                 return false;

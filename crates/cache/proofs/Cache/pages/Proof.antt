@@ -20,6 +20,9 @@ abbrev μ-loop : tie.MeasureT-loop
 loop-holds : tie.Need-loop-holds Inv-loop μ-loop
 loop-holds c = search needs
 
+cast-loop : tie.Need-cast-loop Inv-loop μ-loop
+cast-loop c = search needs
+
 mul-words : tie.Need-mul-words Inv-loop μ-loop
 mul-words c = search needs
 
@@ -60,6 +63,7 @@ pages-spec =
     Inv-loop
     μ-loop
     loop-holds
+    cast-loop
     mul-words
     element-copy-out-words
     mul-words-2

@@ -29,6 +29,9 @@ cast-i c = search needs
 loop-holds : tie.Need-loop-holds Inv-loop μ-loop
 loop-holds c = search needs
 
+cast-loop : tie.Need-cast-loop Inv-loop μ-loop
+cast-loop c = search needs
+
 mul-e : tie.Need-mul-e Inv-loop μ-loop
 mul-e c = search needs
 
@@ -80,6 +83,7 @@ rest-blank-spec =
     μ-loop
     cast-i
     loop-holds
+    cast-loop
     mul-e
     element-copy-out-e
     all-marks-requires

@@ -42,15 +42,23 @@ opened c =
     rw (← c .before .before .before .feedable .ensures, f, ← c .before .outside .ensures, c .if2 .left)
 
 returns-3 : tie.Need-returns-3
-returns-3 c = rw (opened (c .before .before), lt-leb _ _ (c .if3 .taken))
+returns-3 c =
+    let e = c .before .before in
+    let late : leb (e .before .before .before .before .args .self .clock) requestLimit ≡ false = lt-leb _ _ (c .if3 .taken) in
+    rw (opened e, late)
 
 returns-4 : tie.Need-returns-4
-returns-4 c = rw (opened (c .before .before .before .before), le-leb _ _ (c .before .before .if3 .left), lt-leb _ _ (c .if4 .taken))
+returns-4 c =
+    let e = c .before .before .before .before in
+    let timely : leb (e .before .before .before .before .args .self .clock) requestLimit ≡ true = le-leb _ _ (c .before .before .if3 .left) in
+    rw (opened e, timely, lt-leb _ _ (c .if4 .taken))
 
 returns-5 : tie.Need-returns-5
 returns-5 c =
     let b = c .before .before .before in
-    rw (opened (b .before .before), le-leb _ _ (b .if3 .left), le-leb _ _ (c .before .if4 .left)) (sym (both-truth _))
+    let e = b .before .before in
+    let timely : leb (e .before .before .before .before .args .self .clock) requestLimit ≡ true = le-leb _ _ (b .if3 .left) in
+    rw (opened e, timely, le-leb _ _ (c .before .if4 .left)) (sym (both-truth _))
 
 pub sizes-ok-spec : {M : Type 1} → statement M
 sizes-ok-spec =
