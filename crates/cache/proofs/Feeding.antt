@@ -17,6 +17,7 @@ use Rattle.paging.specs.Rules.{mark, ruleNumbered, named, drops, chosen}
 use Rattle.paging.specs.Walk.{entryAt, outcome, next, outcomes, faultsIn, planIn, faults, plan}
 use Rattle.paging.specs.Calls.{frameLimit, marked}
 use Rattle.paging.specs.declared.Entry.{Entry}
+use Rattle.paging.specs.declared.Gate.the-variants.{Open}
 use Rattle.paging.specs.declared.Rule.{Rule}
 use Rattle.paging.specs.declared.Rule.the-variants.{Lru, Fifo, Min, Lru2}
 use Rattle.paging.specs.declared.Outcome.{Outcome}
@@ -26,12 +27,12 @@ use Rattle.paging.proofs.Frames.{next-size}
 use Rattle.cache.specs.declared.Cache.{Cache}
 use Rattle.cache.specs.declared.Reply.{Reply}
 use Rattle.cache.specs.declared.Fed.{Fed}
-use Rattle.cache.specs.Record.{blankEntry, emptyCache, heldOf, heldEntries, ruleOf, feedable}
+use Rattle.cache.specs.Record.{blankEntry, emptyCache, heldOf, heldEntries, ruleOf, feedable, freshOf}
 use Rattle.cache.specs.Sound.{sound}
 use Rattle.cache.specs.Feed.{served, replyOf, fed, feeding, fedPlan, fedFaults}
 use Rattle.cache.specs.Step.{outcomesFrom}
 use Rattle.cache.proofs.Orderly.{drops-one}
-use Rattle.cache.proofs.Soundness.{Sound, sound-is, is-sound, held-length, empty-sound}
+use Rattle.cache.proofs.Soundness.{Sound, sound-is, is-sound, held-length, empty-sound, fresh-in-order, fresh-empty}
 use Rattle.cache.proofs.Step.{not-min, served-sound}
 
 -- ---- where nothing is refused
@@ -181,3 +182,14 @@ module _ (rule n : ℕ) (trace : List ℕ) (feeds : feedable rule ≡ true) (som
   pub feeding-gives-the-count : fedFaults (feeding (emptyCache rule n) trace) ≡ faults (named (ruleNumbered rule)) n trace
   unfolding faults
   feeding-gives-the-count = ap fedFaults feeding-gives-the-walk ∙ faults-of-replies (outcomes (named (ruleNumbered rule)) n 0 trace [])
+
+-- THE SAME FROM FRESH: where its gate is open, up to 8,000 requests without the mark
+module _ (rule n : ℕ) (trace : List ℕ) (opens : freshOf rule n .gate ≡ Open) (short : length trace ≤ 8000) (clean : marked trace ≡ false) where
+  pub fresh-gives-the-walk : feeding (freshOf rule n .cache) trace ≡ map replyOf (outcomes (named (ruleNumbered rule)) n 0 trace [])
+  fresh-gives-the-walk = let (f, h, k) = fresh-in-order rule n opens in rw (fresh-empty rule n opens) (feeding-gives-the-walk rule n trace f h k short clean)
+
+  pub fresh-gives-the-plan : fedPlan (feeding (freshOf rule n .cache) trace) ≡ plan (named (ruleNumbered rule)) n trace
+  fresh-gives-the-plan = let (f, h, k) = fresh-in-order rule n opens in rw (fresh-empty rule n opens) (feeding-gives-the-plan rule n trace f h k short clean)
+
+  pub fresh-gives-the-count : fedFaults (feeding (freshOf rule n .cache) trace) ≡ faults (named (ruleNumbered rule)) n trace
+  fresh-gives-the-count = let (f, h, k) = fresh-in-order rule n opens in rw (fresh-empty rule n opens) (feeding-gives-the-count rule n trace f h k short clean)

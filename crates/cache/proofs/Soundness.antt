@@ -1,6 +1,6 @@
 -- Soundness: the test of document 01's paragraph against its conditions, said of numbers, and what a sound record gives its callers.
 --
--- In order: the conditions; the test implies them and they imply the test; the entries of a sound record; the empty cache is sound.
+-- In order: the conditions; the test implies them and they imply the test; the entries of a sound record; the empty cache is sound; so is what Fresh hands out.
 -- Assumes nothing.
 use mathlib.Core.Path.{_≡_, refl, sym, ap, ap₂, _∙_}
 use mathlib.Core.Logic.{_⊎_, inl, inr}
@@ -20,11 +20,14 @@ use Rattle.paging.specs.Walk.{zeroEntry, entryAt, pages}
 use Rattle.paging.specs.Plans.{mem}
 use Rattle.paging.specs.Calls.{frameLimit, outside}
 use Rattle.paging.specs.declared.Entry.{Entry}
+use Rattle.paging.specs.declared.Gate.the-variants.{Open, No}
+use Rattle.paging.specs.declared.Refusal.the-variants.{UnknownRule, FramesOutside}
 use Rattle.paging.proofs.Lists.{false≢true, both-first, both-second, both-true, all-at, at-all}
 use Rattle.paging.proofs.Held.{In, Apart, apart-nil, in-mem, not-in}
 use Rattle.paging.proofs.Frames.{pages-length, pages-at}
 use Rattle.cache.specs.declared.Cache.{Cache}
-use Rattle.cache.specs.Record.{blankEntry, emptyCache, heldOf, heldEntries, padded, holding, feedable}
+use Rattle.cache.specs.declared.Fresh.{Fresh}
+use Rattle.cache.specs.Record.{blankEntry, blankCache, emptyCache, heldOf, heldEntries, padded, holding, feedable, freshBy, freshOf}
 use Rattle.cache.specs.Sound.{pairwise, inOrder, earlierFits, allMarks, pagesDiffer, moments, momentsDiffer, conditions, sound}
 use Rattle.cache.proofs.Pairs.{pairs-at, at-pairs}
 use Rattle.cache.proofs.Orderly.{InTime, Orderly}
@@ -57,6 +60,14 @@ inside n = go (ltb n 1) refl
 
 is-inside : (n : ℕ) → 1 ≤ n → n ≤ 256 → not (outside n) ≡ true
 is-inside n h k = rw (le-ltb n 1 h, le-ltb 256 n k)
+
+is-outside : (n : ℕ) → (n < 1) ⊎ (256 < n) → outside n ≡ true
+is-outside n (inl h) = rw (lt-ltb n 1 h)
+is-outside n (inr h) = go (ltb n 1)
+  where
+    go : (b : Bool) → pick b true (ltb frameLimit n) ≡ true
+    go true = refl
+    go false = lt-ltb 256 n h
 
 apart-of : (es : List Entry) → pairwise pagesDiffer es ≡ true → Apart (pages es)
 apart-of es e i j h k x =
@@ -276,3 +287,40 @@ empty-sound rule frames f h k =
 -- every entry of the blank record and of an empty cache is all marks
 pub every-entry-blank : (rule frames i : ℕ) → i < 256 → entryAt (emptyCache rule frames .entries) i ≡ blankEntry
 every-entry-blank rule frames i h = getD-replicate 256 i blankEntry zeroEntry h
+
+-- ---- FRESH, in numbers
+
+-- a rule that can be fed and 1 to 256 frames: the open gate and the empty cache
+pub fresh-open : (rule n : ℕ) → feedable rule ≡ true → 1 ≤ n → n ≤ 256
+    → _≡_ {A = Fresh} (freshOf rule n) (record { gate = Open; cache = emptyCache rule n })
+unfolding freshOf
+fresh-open rule n f h k = rw (f, le-ltb n 1 h, le-ltb 256 n k)
+
+-- else refusal 1, then 2, with the blank record
+pub fresh-refused : (rule n : ℕ)
+    → (feedable rule ≡ false → _≡_ {A = Fresh} (freshOf rule n) (record { gate = No UnknownRule; cache = blankCache }))
+    × (feedable rule ≡ true → (n < 1) ⊎ (256 < n) → _≡_ {A = Fresh} (freshOf rule n) (record { gate = No (FramesOutside 0); cache = blankCache }))
+unfolding freshOf
+fresh-refused rule n = (λ f. rw f, λ f h. rw (f, is-outside n h))
+
+-- so an open gate tells that rule and frames are in order
+pub fresh-in-order : (rule n : ℕ) → freshOf rule n .gate ≡ Open → (feedable rule ≡ true) × (1 ≤ n) × (n ≤ 256)
+unfolding freshOf
+fresh-in-order rule n = go (feedable rule) (outside n) refl refl
+  where
+    go : (a b : Bool) → feedable rule ≡ a → outside n ≡ b → freshBy (pick (not a) (No UnknownRule) (pick b (No (FramesOutside 0)) Open)) rule n .gate ≡ Open
+        → (feedable rule ≡ true) × (1 ≤ n) × (n ≤ 256)
+    go true true p q e = absurd (let z : _≡_ {A = ℕ} 0 1 = cc in omega arith)
+    go true false p q e = let (h, k) = inside n (of-not _ q) in (p, h, k)
+    go false true p q e = absurd (let z : _≡_ {A = ℕ} 0 1 = cc in omega arith)
+    go false false p q e = absurd (let z : _≡_ {A = ℕ} 0 1 = cc in omega arith)
+
+-- and that the record is the empty cache
+pub fresh-empty : (rule n : ℕ) → freshOf rule n .gate ≡ Open → freshOf rule n .cache ≡ emptyCache rule n
+fresh-empty rule n e = let (f, h, k) = fresh-in-order rule n e in ap (λ (r : Fresh). r .cache) (fresh-open rule n f h k)
+
+-- WHAT FRESH HANDS OUT is sound
+pub fresh-sound : (rule n : ℕ) → freshOf rule n .gate ≡ Open → sound (freshOf rule n .cache) ≡ true
+fresh-sound rule n e =
+    let (f, h, k) = fresh-in-order rule n e in
+    rw (fresh-empty rule n e) (is-sound (emptyCache rule n) (empty-sound rule n f h k))

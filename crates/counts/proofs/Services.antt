@@ -24,8 +24,9 @@ use Rattle.paging.proofs.Calls.{none-marked}
 use Rattle.paging.proofs.Services.{written-open}
 use Rattle.paging.proofs.Writing.{plan-length, laid-whole}
 use Rattle.calls.proofs.Chain.{InOrder, trace-open}
-use Rattle.cache.specs.Record.{emptyCache, feedable}
+use Rattle.cache.specs.Record.{emptyCache, feedable, freshOf}
 use Rattle.cache.specs.Feed.{feeding, fedPlan, fedFaults}
+use Rattle.cache.proofs.Soundness.{fresh-in-order, fresh-empty}
 use Rattle.cache.proofs.Feeding.{feeding-gives-the-plan, feeding-gives-the-count}
 use Rattle.counts.specs.Counts.{countOf, planTests, planOf, wordsOf}
 use Rattle.counts.proofs.Chains.{count-open, same-answer}
@@ -80,7 +81,7 @@ module _ (rule n : ℕ) (trace words : List ℕ) (f : ℕ) (said : planOf rule n
   pub count-answers-the-same : countOf rule n trace ≡ Faults f
   count-answers-the-same = same-answer rule n trace words (accepted .0) ∙ said
 
-  -- FEEDING the trace from a fresh record of rule 1, 2 or 4 gives that plan and that number
+  -- FEEDING the trace from an empty cache of rule 1, 2 or 4 gives that plan and that number
   module _ (feeds : feedable rule ≡ true) where
     pub feeding-gives-the-words : fedPlan (feeding (emptyCache rule n) trace) ≡ take (length trace) (wordsOf rule n trace words)
     unfolding kind
@@ -94,3 +95,11 @@ module _ (rule n : ℕ) (trace words : List ℕ) (f : ℕ) (said : planOf rule n
     feeding-gives-the-number =
         feeding-gives-the-count rule n trace feeds (in-order .one-frame) (in-order .frames) (in-order .requests) (none-marked trace (in-order .pages))
         ∙ accepted .1
+
+  -- THE SAME FROM FRESH, where its gate is open
+  module _ (opens : freshOf rule n .gate ≡ Open) where
+    pub fresh-gives-the-words : fedPlan (feeding (freshOf rule n .cache) trace) ≡ take (length trace) (wordsOf rule n trace words)
+    fresh-gives-the-words = rw (fresh-empty rule n opens) (feeding-gives-the-words (fresh-in-order rule n opens .0))
+
+    pub fresh-gives-the-number : fedFaults (feeding (freshOf rule n .cache) trace) ≡ f
+    fresh-gives-the-number = rw (fresh-empty rule n opens) (feeding-gives-the-number (fresh-in-order rule n opens .0))
