@@ -4,3 +4,4 @@ pub mod Chains
 pub mod Back
 pub mod Laws
 pub mod OneReading
+pub mod Longer
