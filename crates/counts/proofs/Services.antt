@@ -1,4 +1,4 @@
--- Count and Write a plan as services: the plan written is accepted with the faults answered, both answer the same number, and feeding gives both.
+-- Count and Write a plan as services: the plan written keeps the plan rule with the faults answered, both answer the same number, and feeding gives both.
 -- Each holds of any accepted call: where Write a plan answers a number of faults, whatever the rule, the frames, the trace and the words.
 -- Assumes nothing.
 use mathlib.Core.Path.{_≡_, refl, sym, ap, ap₂, _∙_}
@@ -49,7 +49,8 @@ module _ (rule n : ℕ) (trace words : List ℕ) (f : ℕ) (said : planOf rule n
   unfolding planOf kind
   accepted = answer-open (gate (planTests rule n trace words)) f (faults (named (ruleNumbered rule)) n trace) said
 
-  in-order : InOrder n trace
+  -- an answered call is in order
+  pub in-order : InOrder n trace
   unfolding gate ruleTests
   in-order = go (unknown (ruleNumbered rule)) (count-open rule n trace words (accepted .0) .0)
     where
@@ -68,7 +69,7 @@ module _ (rule n : ℕ) (trace words : List ℕ) (f : ℕ) (said : planOf rule n
       ∙ laid-whole (plan kind n trace) words (let h : length (plan kind n trace) ≤ length words = omega (arith, plan-long, count-open rule n trace words (accepted .0) .1) in h)
       ∙ ap (λ (k : ℕ). plan kind n trace ++ drop k words) plan-long
 
-  -- WHAT WRITE A PLAN LEAVES is accepted by Check for the same frames with the faults that it answered
+  -- WHAT WRITE A PLAN LEAVES keeps the plan rule for the same frames, with the faults that it answered
   pub written-plan-accepted : check n trace (wordsOf rule n trace words) ≡ Faults f
   unfolding kind
   written-plan-accepted =
