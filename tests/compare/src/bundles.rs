@@ -65,6 +65,19 @@ fn good(rng: &mut Rng, most: usize) -> Contents {
 
 /// One kind of damage to a good bundle's words, or to the bytes behind them.
 fn damaged(rng: &mut Rng) -> Vec<u8> {
+    let list = damaged_words(rng);
+    let mut file = file_of(&list);
+    match rng.below(5) {
+        0 if !file.is_empty() => file.truncate(rng.below(file.len())),
+        1 => (0..rng.between(1, 7)).for_each(|_| file.push(rng.word() as u8)),
+        2 if !file.is_empty() => file[rng.below(list.len() * 4)] = rng.word() as u8,
+        _ => {}
+    }
+    file
+}
+
+/// The words of a good file, most with a word or a count spoilt.
+fn damaged_words(rng: &mut Rng) -> Vec<u32> {
     let contents = good(rng, 12);
     let t = contents.trace.len();
     let mut list = contents.words();
@@ -104,14 +117,7 @@ fn damaged(rng: &mut Rng) -> Vec<u8> {
         }
         _ => {}
     }
-    let mut file = file_of(&list);
-    match rng.below(5) {
-        0 if !file.is_empty() => file.truncate(rng.below(file.len())),
-        1 => (0..rng.between(1, 7)).for_each(|_| file.push(rng.word() as u8)),
-        2 if !file.is_empty() => file[rng.below(list.len() * 4)] = rng.word() as u8,
-        _ => {}
-    }
-    file
+    list
 }
 
 fn compare_read(tally: &mut Tally, file: &[u8], requests: &[u32], plan: &[u32]) {

@@ -114,16 +114,28 @@ unsafe extern "C" fn hedravos_count(
     answer_len: usize,
 ) {
     let requests = list(trace, trace_len);
+    let reply = count_reply(rule, n, requests);
+    if mistake(29) && trace_len > 0 {
+        *trace.cast_mut() ^= 1;
+    }
+    if mistake(30) {
+        *answer.add(answer_len) = 0;
+    }
+    put(lent(answer, answer_len), reply);
+}
+
+/// What Count answers, with the mistakes that are in the answer.
+fn count_reply(rule: u32, n: u32, requests: &[u32]) -> Reply {
     let mut reply = second::count(rule, n, requests);
     if mistake(1) && rule == second::FIFO {
         reply = second::count(second::LRU, n, requests);
     }
     if mistake(5) && reply.number == 0 {
-        let mut plan = vec![0; trace_len];
+        let mut plan = vec![0; requests.len()];
         second::write_plan(rule, n, requests, &mut plan);
         reply.faults = plan.iter().filter(|&&word| word != MARK).count() as u32;
     }
-    if mistake(6) && trace_len > 8_000 && reply.number == 3 {
+    if mistake(6) && requests.len() > 8_000 && reply.number == 3 {
         if let Some(moment) = requests.iter().position(|&page| page == MARK) {
             reply.number = 4;
             reply.place = moment as u32;
@@ -132,19 +144,13 @@ unsafe extern "C" fn hedravos_count(
     if mistake(27) {
         reply = second::count(rule & 255, n, requests);
     }
-    if mistake(28) && trace_len == 8_001 {
+    if mistake(28) && requests.len() == 8_001 {
         reply = second::count(rule, n, &requests[..8_000]);
-    }
-    if mistake(29) && trace_len > 0 {
-        *trace.cast_mut() ^= 1;
-    }
-    if mistake(30) {
-        *answer.add(answer_len) = 0;
     }
     if mistake(34) && rule == second::LRU_2 && reply.number == 0 {
         reply.faults = faults_with_long_memory(n, requests);
     }
-    put(lent(answer, answer_len), reply);
+    reply
 }
 
 /// LRU-2 as it would be with the whole past of each page: not document 01's rule.
@@ -416,15 +422,10 @@ unsafe extern "C" fn hedravos_read(
         reply.number = 10;
         reply.place = 12;
     }
-    let words = [
-        reply.number,
-        reply.place,
-        reply.n,
-        reply.m,
-        reply.t,
-        reply.plan_count,
-    ];
-    lent(answer, answer_len).copy_from_slice(&words);
+    let sizes = [reply.n, reply.m, reply.t, reply.plan_count];
+    let room = lent(answer, answer_len);
+    room[..2].copy_from_slice(&[reply.number, reply.place]);
+    room[2..].copy_from_slice(&sizes);
 }
 
 #[no_mangle]
