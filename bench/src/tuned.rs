@@ -373,7 +373,7 @@ pub fn check(m: u32, trace: &[u32], words: &[u32]) -> Result<u32, u32> {
     Ok(faults)
 }
 
-/// Feeds the trace one page at a time, naming pages as they come. Answers the drops.
+/// Feeds the trace one page at a time, naming pages as they come. Answers the faults.
 pub fn feed_all(rule: u32, n: u32, trace: &[u32], words: &mut [u32]) -> u32 {
     match rule {
         LRU => feed_cache::<Lru>(n, trace, words),

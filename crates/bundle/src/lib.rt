@@ -190,7 +190,7 @@ fn value_gate(file: &[u8], requests: usize) -> Gate
     }
 }
 
-// Every refusal of a reading in its order; so many words are lent for the requests and for the plan.
+// Every refusal of a reading in its order; `requests` and `plan` are how many words are lent for each.
 fn judge(file: &[u8], requests: usize, plan: usize) -> Gate
     ensures { λ r. ⌜ r ≡ gate (readTests (now (file .entry)) requests plan) ⌝ }
 {

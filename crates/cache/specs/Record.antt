@@ -36,6 +36,7 @@ blankCache = emptyCache 0 0
 
 -- ---- what a record holds
 
+-- how many entries are in use; every definition asks it here
 abbrev pub heldOf : Cache → ℕ
 heldOf c = c .held
 

@@ -1,5 +1,5 @@
 // The cache record of document 01: its limits, the blank record, the empty cache of a given size, and the inner step that serves one request.
-// Soundness is in sound.rt, Feed in feed.rt. Everything here that asks something of its caller is private.
+// Soundness is in sound.rt, Feed in feed.rt, a whole trace in runs.rt. Everything here that asks something of its caller is private.
 mod feed;
 pub mod runs;
 mod sound;
@@ -100,7 +100,7 @@ fn renewed(e: Entry, now: Moment) -> Entry
     }
 }
 
-// The least of these is the entry to drop; moments of a sound record are below the request limit.
+// A number for an entry: the held entry with the least is dropped. Under LRU-2 pages requested once come first, as moments of a sound record are below 8,000.
 fn key(e: Entry, rule: u32) -> u64
     ensures { λ r. ⌜ r ≡ keyOf rule e ⌝ }
 {

@@ -12,7 +12,7 @@ ghost use Rattle.cache.specs.Scan.{sizesOk, entryOk, entriesOk, Below, u
 use crate::Cache;
 use paging::Entry;
 
-// Whether p is among the words. No early return: a loop of one fixed length can test several words at once.
+// Whether p is among the words. No early return, so that several words can be tested at once.
 fn among(words: &[u32], p: u32) -> bool
     ensures { λ r. ⌜ r ≡ mem p (now (words .entry)) ⌝ }
 {

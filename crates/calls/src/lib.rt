@@ -74,7 +74,7 @@ pub fn rule_gate(rule: u32, n: u32, trace: &[u32]) -> Gate
     }
 }
 
-// Refusal 6 after those before it: so many words lent for so many requests.
+// An earlier refusal stays; else 6 where fewer words are lent than there are requests.
 pub fn lent_gate(before: Gate, requests: usize, lent: usize) -> Gate
     ensures { λ r. ⌜ r ≡ lentGate before requests lent ⌝ }
 {

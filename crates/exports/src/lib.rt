@@ -1,5 +1,6 @@
 // The services of document 01 for callers outside: numbers, and lists as a pointer and a length.
-// An answer goes to the front of lent words, number by number; where the words end, the rest is left out. Nothing is asked of a caller.
+// An answer goes to the front of lent words, number by number; where the words end, the rest is left out.
+// Of a caller is asked only what makes a slice: so many words or bytes behind each pointer, and no list that is written overlapping another.
 pub mod caches; // caches.rt: Fresh, soundness and Feed
 
 ghost use mathlib.Core.Path.{_≡_};
@@ -14,7 +15,7 @@ ghost use Rattle.reporting.specs.Report.{reportOf};
 ghost use Rattle.exports.specs.Words.{countWords, verdictWords, chosenWords, readWords, writeWords, textWords};
 use paging::Answer;
 
-// Document 01's numbers of Feed's reply. What a reply lacks is 0, its page the mark.
+// Feed's reply in numbers: a refusal's number and place, the kind (0 hit or refused, 1 loaded, 2 dropped), and the page dropped, else the mark.
 struct ReplyNumbers {
     number: u32,
     place: u32,

@@ -23,11 +23,13 @@ unfoldable pub farthest : List ℕ → List ℕ → ℕ
 unfolding goesFirst indexOf
 farthest rest held = indexOf (goesFirst rest held) held
 
+-- what a request of page p comes to in n frames, with `rest` to come and these pages held
 unfoldable pub minOutcome : ℕ → ℕ → List ℕ → List ℕ → Outcome
 unfolding mem farthest
 minOutcome n p rest held =
     pick (mem p held) Hit (pick (ltb (length held) n) Loaded (Dropped (record { 0 = getD held (farthest rest held) 0 })))
 
+-- the pages held after it
 unfoldable pub minNext : ℕ → ℕ → List ℕ → List ℕ → List ℕ
 unfolding mem farthest
 minNext n p rest held =

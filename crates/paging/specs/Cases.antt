@@ -151,10 +151,10 @@ calls =
     ∷ call 4 1 (replicate 8000 4294967294) (replicate 8001 o) Open
     ∷ []
 
-pub answered : Call → Bool
+pub callComesOut : Call → Bool
 unfolding sameGate gate ruleTests lentTests
-answered c = sameGate (gate (ruleTests (c .rule) (c .frames) (c .trace) ++ lentTests (c .trace) (c .words))) (c .says)
+callComesOut c = sameGate (gate (ruleTests (c .rule) (c .frames) (c .trace) ++ lentTests (c .trace) (c .words))) (c .says)
 
-pub calls-hold : all answered calls ≡ true
-unfolding all answered calls
+pub calls-hold : all callComesOut calls ≡ true
+unfolding all callComesOut calls
 calls-hold = refl

@@ -1,6 +1,6 @@
 -- The few words on lists and truth values that the definitions of this project are written in.
 --
--- In order: choosing by a test; "both" and "if .. then"; some, all and how many of a list pass a test; the place of the first that does.
+-- In order: choosing by a test; "not", "both" and "if .. then"; whether some or all of a list pass a test; the place of the first that does.
 -- A list is read from 0; `length` is `lib.ListN`'s.
 -- Assumes nothing.
 use mathlib.Core.Bool.{Bool, true, false}

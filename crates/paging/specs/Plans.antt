@@ -16,12 +16,12 @@ use Rattle.paging.specs.declared.Answer.{Answer}
 use Rattle.paging.specs.declared.Answer.the-variants.{Faults, Refused}
 use Rattle.paging.specs.declared.Refusal.the-variants.{LentTooShort, PlanBroken}
 
--- page p is among the held pages
+-- page p is among the pages of a list
 unfoldable pub mem : ℕ → List ℕ → Bool
 unfolding any
 mem p held = any (λ (q : ℕ). eqb q p) held
 
--- the frame that holds page p
+-- where page p first stands in a list, which among held pages is its frame; the length, if nowhere
 unfoldable pub placeOf : ℕ → List ℕ → ℕ
 unfolding indexOf
 placeOf p held = indexOf (λ (q : ℕ). eqb q p) held

@@ -21,11 +21,12 @@ answered tests rule n trace = through (gate tests) (Faults (faults rule n trace)
 abbrev pub laid : List ℕ → List ℕ → List ℕ
 laid list words = take (length words) list ++ drop (length list) words
 
--- the lent words: the rule's plan in the first T, the others as they were; on a refusal all as they were
+-- lent words after a call: a list laid over their front where the gate is open, else as they were
 abbrev pub leftBy : Gate → List ℕ → List ℕ → List ℕ
 leftBy Open list words = laid list words
 leftBy (No refusal) list words = words
 
+-- Write a plan: the rule's plan in the first T words, the others as they were; on a refusal all as they were
 unfoldable pub written : List Test → Rule → ℕ → List ℕ → List ℕ → List ℕ
 unfolding gate plan
 written tests rule n trace words = leftBy (gate tests) (plan rule n trace) words

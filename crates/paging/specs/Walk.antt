@@ -27,7 +27,7 @@ unfoldable pub frameOf : ℕ → List Entry → ℕ
 unfolding indexOf
 frameOf p es = indexOf (λ (e : Entry). eqb (e .page .0) p) es
 
--- what a read past the last frame in use would give; no definition reads there
+-- what a read past the last frame in use would give; with n from 1 no definition reads there
 abbrev pub zeroEntry : Entry
 zeroEntry =
     record { page = record { 0 = 0 }; loaded = record { 0 = 0 }; last = record { 0 = 0 }; earlier = record { 0 = 0 } }

@@ -106,6 +106,7 @@ claimLine sizes trace plan = pick (eqb (sizes .planned) 0) (claimWord ++ noneWor
 
 -- ---- the report
 
+-- the four rules with n frames, then MIN with m
 abbrev pub rulesText : Sizes → List ℕ → List ℕ
 rulesText sizes trace =
     ruleLine lruWord 1 (sizes .n) trace

@@ -7,7 +7,7 @@ use lib.ListN.{length, drop}
 use Rattle.paging.specs.Lists.{pick}
 use Rattle.words.specs.Bytes.{wordsAt}
 
--- none where the place is past the end
+-- how many bytes the file has from byte `at` on; none where that is past the end
 abbrev pub bytesFrom : List ℕ → ℕ → ℕ
 bytesFrom file at = length file - at
 

@@ -190,7 +190,7 @@ pub fn counts(tally: &mut Tally) {
     }
 }
 
-/// Every allowed number of frames, with a trace that fills them.
+/// Every number of frames from 0 to 258, with 2n + 30 requests.
 pub fn counts_every_size(tally: &mut Tally) {
     let mut rng = Rng::new(102);
     for n in 0..=258 {
@@ -274,7 +274,7 @@ fn long_calls(tally: &mut Tally, rng: &mut Rng, n: u32, trace: &[u32]) {
     }
 }
 
-/// The largest cache on the longest trace: the three inputs that speed is measured on.
+/// The largest cache on the longest trace, of three of the kinds that speed is measured on.
 pub fn largest(tally: &mut Tally) {
     let mut rng = Rng::new(107);
     let uniform: Vec<u32> = (0..8_000).map(|_| rng.below(400) as u32).collect();

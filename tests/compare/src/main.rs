@@ -1,5 +1,6 @@
 //! Compares the proved program with the second program, one line for each group of cases.
 //! Names of groups may be given; without any, all are run. Ends with `N passed, M failed`.
+//! In the groups `ours` is the second program and `theirs` the proved one, called through judge.rs.
 
 mod bundles;
 mod calls;
