@@ -63,7 +63,7 @@ freshWords f =
 abbrev pub soundWords : Cache → List ℕ
 soundWords c = pick (sound c) 1 0 ∷ []
 
--- a refusal's number and place; the kind 0 for a hit, 1 for a load, 2 for a drop; the page dropped, else the mark
+-- a refusal's number and place; the kind 0 for a hit or a refusal, 1 for a load, 2 for a drop; the page dropped, else the mark
 abbrev pub replyNumbers : Reply → ReplyNumbers
 replyNumbers Hit = record { number = 0; place = 0; kind = 0; page = replyWord Hit }
 replyNumbers Loaded = record { number = 0; place = 0; kind = 1; page = replyWord Loaded }

@@ -4,7 +4,7 @@ use mathlib.Core.Path.{_≡_, refl, sym, subst, _∙_}
 use mathlib.Core.List.{List, [], _∷_, _++_, append-assoc, append-nil}
 use Prim.Native.Nat.{ℕ, suc, zero, _+_, _*_, _-_, _≤_, _<_}
 use native.Mathlib.Omega.{arith}
-use lib.ListN.{length, getD, take, drop, set, length-set}
+use lib.ListN.{length, getD, take, drop, set, drop-of-length-le}
 use lib.Seq.{take-suc-set, take-length, drop-cons}
 use Rattle.paging.specs.declared.Entry.{Entry}
 use Rattle.records.specs.Records.{entryAt, entriesAt, putEntry, putEntries}
@@ -47,15 +47,6 @@ put-on es d i words all h e =
     let s : i + 1 ≡ suc i = omega arith in
     rw (g, s, ← e, drop-cons es i d h) refl
 
-none-left : (es : List Entry) (i : ℕ) → length es ≤ i → drop i es ≡ []
-none-left [] zero h = refl
-none-left [] (suc i) h = refl
-none-left (e ∷ es) zero h = absurd (omega arith)
-none-left (e ∷ es) (suc i) h = none-left es i (omega arith)
-
 pub put-all : (es : List Entry) (i at : ℕ) (words all : List ℕ) → length es ≤ i → putEntries at (drop i es) words ≡ all → words ≡ all
 unfolding putEntries
-put-all es i at words all h e = subst (λ (left : List Entry). putEntries at left words ≡ all) (none-left es i h) e
-
-pub put-length : (at : ℕ) (e : Entry) (words : List ℕ) → length (putEntry at e words) ≡ length words
-put-length at e words = rw (length-set (set (set (set words at (e .page .0)) (at + 1) (e .loaded .0)) (at + 2) (e .last .0)) (at + 3) (e .earlier .0), length-set (set (set words at (e .page .0)) (at + 1) (e .loaded .0)) (at + 2) (e .last .0), length-set (set words at (e .page .0)) (at + 1) (e .loaded .0), length-set words at (e .page .0)) refl
+put-all es i at words all h e = subst (λ (left : List Entry). putEntries at left words ≡ all) (drop-of-length-le es h) e

@@ -7,7 +7,8 @@ use native.Mathlib.Omega.{arith}
 use lib.ListN.{length, drop}
 use Rattle.cache.proofs.Long.{long}
 use Rattle.records.specs.Records.{putEntries}
-use Rattle.records.proofs.Loops.{put-on, put-all, put-length}
+use Rattle.records.proofs.Back.{put-length}
+use Rattle.records.proofs.Loops.{put-on, put-all}
 use Rattle.records.proofs.put_entries.Statement.{statement}
 use Rattle.records.proofs.put_entries.Tie as tie
 
