@@ -13,7 +13,7 @@ use lib.Dec.{eqb}
 use lib.ListN.{length, getD, set}
 use borrow.Author.Tests.{eqb-true, eq-eqb}
 use Rattle.paging.specs.Lists.{pick}
-use Rattle.paging.proofs.Held.{In, Apart}
+use Rattle.paging.specs.Meanings.{In, Apart}
 
 -- ---- counting
 

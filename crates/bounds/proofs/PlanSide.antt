@@ -13,8 +13,8 @@ use lib.Dec.{ltb}
 use lib.ListN.{length, set, length-set}
 use lib.Seq.{getD-set-same}
 use borrow.Author.Tests.{le-ltb, ltb-true, ltb-false}
-use Rattle.paging.specs.Lists.{pick}
-use Rattle.paging.specs.Plans.{mem, placeOf, judged, after, absent, through, checkFrom}
+use Rattle.paging.specs.Lists.{pick, mem, placeOf}
+use Rattle.paging.specs.Plans.{judged, after, absent, through, checkFrom}
 use Rattle.paging.specs.declared.Gate.{Gate}
 use Rattle.paging.specs.declared.Gate.the-variants.{Open, No}
 use Rattle.paging.specs.declared.Answer.the-variants.{Faults, Refused}

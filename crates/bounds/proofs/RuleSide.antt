@@ -14,14 +14,15 @@ use lib.ListN.{length, set, length-set}
 use lib.Seq.{getD-set-same, getD-append-seam}
 use borrow.Author.Tests.{leb-true}
 use Rattle.paging.specs.Lists.{pick}
-use Rattle.paging.specs.Rules.{lruDrops, fifoDrops, drops, chosen}
+use Rattle.paging.specs.Rules.{Sees, lruDrops, fifoDrops, drops, chosen}
 use Rattle.paging.specs.Walk.{holds, frameOf, zeroEntry, entryAt, pages, loadedAt, renewed, next}
 use Rattle.paging.specs.declared.Entry.{Entry}
 use Rattle.paging.specs.declared.Rule.{Rule}
 use Rattle.paging.specs.declared.Rule.the-variants.{Lru, Fifo}
 use Rattle.paging.proofs.Lists.{true≢false, all-at, length-snoc, getD-snoc-old, snoc-cases, set-cases}
 use Rattle.paging.proofs.Choice.{chosen-below, chosen-drops}
-use Rattle.paging.proofs.Held.{In, Apart, absent-in, apart-nil}
+use Rattle.paging.specs.Meanings.{In, Apart}
+use Rattle.paging.proofs.Held.{absent-in, apart-nil}
 use Rattle.paging.proofs.Frames.{pages-length, pages-at, mem-pages, held-frame, Ways, ways, next-hit, next-room, next-full, next-apart, next-size}
 use Rattle.bounds.proofs.Pigeonhole.{times, Among, Within, pigeonhole, once-cons, among-cons, within-cons, among-in, apart-once}
 use Rattle.bounds.proofs.Phases.{missed, Frugal}
@@ -32,11 +33,11 @@ use Rattle.bounds.proofs.Phases.{missed, Frugal}
 pub record Aged (rule : Rule) (key : Entry → ℕ) : Type 0 where
   pub new : (t p : ℕ) → key (loadedAt t p) ≡ t
   pub again : (t : ℕ) (e : Entry) → (key (renewed t e) ≡ t) ⊎ (key (renewed t e) ≡ key e)
-  pub least : (rest : List ℕ) (es : List Entry) (i : ℕ) → i < length es → key (entryAt es (chosen rule rest es)) ≤ key (entryAt es i)
+  pub least : (sees : Sees) (es : List Entry) (i : ℕ) → i < length es → key (entryAt es (chosen rule sees es)) ≤ key (entryAt es i)
 
 module _ (rule : Rule) (key : Entry → ℕ) (aged : Aged rule key) (n : ℕ) (pos : 1 ≤ n) where
   -- so it is at every moment t of a walk from empty
-  record Sound (t : ℕ) (es : List Entry) : Type 0 where
+  record Steady (t : ℕ) (es : List Entry) : Type 0 where
     apart : Apart (pages es)
     size : length es ≤ n
     past : (i : ℕ) → i < length es → key (entryAt es i) < t
@@ -47,14 +48,14 @@ module _ (rule : Rule) (key : Entry → ℕ) (aged : Aged rule key) (n : ℕ) (p
 
   -- ---- one request, of page p at moment t
 
-  module _ (t p : ℕ) (rest : List ℕ) (es : List Entry) (good : Sound t es) where
+  module _ (t p : ℕ) (sees : Sees) (es : List Entry) (good : Steady t es) where
     -- each entry is that of page p, with a key not after t, or an old one
     abbrev Fits : List Entry → Type 0
     Fits fs =
         (i : ℕ) → i < length fs
         → ((entryAt fs i .page .0 ≡ p) × (key (entryAt fs i) ≤ t)) ⊎ ((i < length es) × (entryAt fs i ≡ entryAt es i))
 
-    next-fits : Fits (next rule n t p rest es)
+    next-fits : Fits (next rule n t p sees es)
     next-fits = go (ways n p es)
       where
         stored : (k : ℕ) (e : Entry) → e .page .0 ≡ p → key e ≤ t → Fits (set es k e)
@@ -66,42 +67,42 @@ module _ (rule : Rule) (key : Entry → ℕ) (aged : Aged rule key) (n : ℕ) (p
         touched : (i : ℕ) → i < length es → key (renewed t (entryAt es i)) ≤ t
         touched i h = ⊎-elim (λ x. omega arith) (λ x. omega (arith, good .past i h)) (aged .again t (entryAt es i))
 
-        go : Ways n p es → Fits (next rule n t p rest es)
+        go : Ways n p es → Fits (next rule n t p sees es)
         go (inl q) =
             let (h, g) = held-frame p es q in
-            rw (next-hit rule n t p rest es q) (stored (frameOf p es) (renewed t (entryAt es (frameOf p es))) g (touched (frameOf p es) h))
-        go (inr (inl (q, h))) = rw (next-room rule n t p rest es q h) (added (loadedAt t p) refl (omega (arith, aged .new t p)))
-        go (inr (inr (q, h))) = rw (next-full rule n t p rest es q h) (stored (chosen rule rest es) (loadedAt t p) refl (omega (arith, aged .new t p)))
+            rw (next-hit rule n t p sees es q) (stored (frameOf p es) (renewed t (entryAt es (frameOf p es))) g (touched (frameOf p es) h))
+        go (inr (inl (q, h))) = rw (next-room rule n t p sees es q h) (added (loadedAt t p) refl (omega (arith, aged .new t p)))
+        go (inr (inr (q, h))) = rw (next-full rule n t p sees es q h) (stored (chosen rule sees es) (loadedAt t p) refl (omega (arith, aged .new t p)))
 
-    next-sound : Sound (suc t) (next rule n t p rest es)
-    next-sound = record {
-      apart = next-apart rule n t p rest es (good .apart);
-      size = next-size rule n t p rest es (good .size);
+    next-steady : Steady (suc t) (next rule n t p sees es)
+    next-steady = record {
+      apart = next-apart rule n t p sees es (good .apart);
+      size = next-size rule n t p sees es (good .size);
       past = λ i h. ⊎-elim (λ x. omega arith) (λ x. rw (x .1) (omega (arith, good .past i (x .0)))) (next-fits i h);
     }
 
     -- a page loaded is held with key t
-    next-loaded : holds p es ≡ false → Since t p (next rule n t p rest es)
+    next-loaded : holds p es ≡ false → Since t p (next rule n t p sees es)
     next-loaded q = go (ways n p es)
       where
         stands : (fs : List Entry) (i : ℕ) → i < length fs → entryAt fs i ≡ loadedAt t p → Since t p fs
         stands fs i h e = (i, h, rw e refl, rw e (omega (arith, aged .new t p)))
 
-        go : Ways n p es → Since t p (next rule n t p rest es)
+        go : Ways n p es → Since t p (next rule n t p sees es)
         go (inl h) = absurd (true≢false (sym h ∙ q))
         go (inr (inl (h, k))) =
-            rw (next-room rule n t p rest es h k)
+            rw (next-room rule n t p sees es h k)
             (stands (es ++ (loadedAt t p ∷ [])) (length es) (omega (arith, length-snoc zeroEntry es (loadedAt t p)))
             (getD-append-seam es (loadedAt t p) [] zeroEntry))
         go (inr (inr (h, k))) =
-            let below : chosen rule rest es < length es = chosen-below rule rest es (omega arith) in
-            rw (next-full rule n t p rest es h k)
-            (stands (set es (chosen rule rest es) (loadedAt t p)) (chosen rule rest es) (omega (arith, length-set es (chosen rule rest es) (loadedAt t p)))
-            (getD-set-same es (chosen rule rest es) (loadedAt t p) zeroEntry below))
+            let below : chosen rule sees es < length es = chosen-below rule sees es (omega arith) in
+            rw (next-full rule n t p sees es h k)
+            (stands (set es (chosen rule sees es) (loadedAt t p)) (chosen rule sees es) (omega (arith, length-set es (chosen rule sees es) (loadedAt t p)))
+            (getD-set-same es (chosen rule sees es) (loadedAt t p) zeroEntry below))
 
     -- what is held with a key not before s stays so, if what is dropped has a key before s
-    next-since : (s z : ℕ) → s ≤ t → (holds p es ≡ false → n ≤ length es → key (entryAt es (chosen rule rest es)) < s)
-        → Since s z es → Since s z (next rule n t p rest es)
+    next-since : (s z : ℕ) → s ≤ t → (holds p es ≡ false → n ≤ length es → key (entryAt es (chosen rule sees es)) < s)
+        → Since s z es → Since s z (next rule n t p sees es)
     next-since s z begun old (i, h, e, k) = go (ways n p es)
       where
         stored : (j : ℕ) (x : Entry) → (i ≡ j → (x .page .0 ≡ z) × (s ≤ key x)) → Since s z (set es j x)
@@ -116,15 +117,15 @@ module _ (rule : Rule) (key : Entry → ℕ) (aged : Aged rule key) (n : ℕ) (p
         dropped : (j : ℕ) → key (entryAt es j) < s → i ≡ j → ⊥
         dropped j l q = omega (arith, rw (← q) at l)
 
-        go : Ways n p es → Since s z (next rule n t p rest es)
-        go (inl q) = rw (next-hit rule n t p rest es q) (stored (frameOf p es) (renewed t (entryAt es (frameOf p es))) (touched (frameOf p es)))
+        go : Ways n p es → Since s z (next rule n t p sees es)
+        go (inl q) = rw (next-hit rule n t p sees es q) (stored (frameOf p es) (renewed t (entryAt es (frameOf p es))) (touched (frameOf p es)))
         go (inr (inl (q, l))) =
-            rw (next-room rule n t p rest es q l)
+            rw (next-room rule n t p sees es q l)
             (let g : entryAt (es ++ (loadedAt t p ∷ [])) i ≡ entryAt es i = getD-snoc-old zeroEntry es (loadedAt t p) i h in
             (i, omega (arith, length-snoc zeroEntry es (loadedAt t p)), rw g e, rw g k))
         go (inr (inr (q, l))) =
-            rw (next-full rule n t p rest es q l)
-            (stored (chosen rule rest es) (loadedAt t p) (λ y. absurd (dropped (chosen rule rest es) (old q l) y)))
+            rw (next-full rule n t p sees es q l)
+            (stored (chosen rule sees es) (loadedAt t p) (λ y. absurd (dropped (chosen rule sees es) (old q l) y)))
 
   -- ---- the window
 
@@ -139,7 +140,7 @@ module _ (rule : Rule) (key : Entry → ℕ) (aged : Aged rule key) (n : ℕ) (p
     held : (z : ℕ) → Among z faulted → Since s z es
     asked : (i : ℕ) → i < length es → s ≤ key (entryAt es i) → Among (entryAt es i .page .0) cov
 
-  window-opens : (t : ℕ) (cov : List ℕ) (es : List Entry) → Sound t es → Window t cov 0 es
+  window-opens : (t : ℕ) (cov : List ℕ) (es : List Entry) → Steady t es → Window t cov 0 es
   unfolding times
   window-opens t cov es good = record {
     s = t;
@@ -168,52 +169,52 @@ module _ (rule : Rule) (key : Entry → ℕ) (aged : Aged rule key) (n : ℕ) (p
       within : Within (win .faulted) cov
       within z h = let (i, l, e, k) = win .held z h in rw (← e) (win .asked i l k)
 
-  module _ (t p r : ℕ) (rest cov : List ℕ) (es : List Entry) (good : Sound t es) (asks : Among p cov) (short : length cov ≤ n) (win : Window t cov r es) where
+  module _ (t p r : ℕ) (sees : Sees) (cov : List ℕ) (es : List Entry) (good : Steady t es) (asks : Among p cov) (short : length cov ≤ n) (win : Window t cov r es) where
     stranger : holds p es ≡ false → In p (pages es) → ⊥
     stranger q = absent-in p (pages es) (mem-pages p es ∙ q)
 
     -- what is dropped has a key from before the window: else n pages held and the one that comes would all be among n
-    dropped-before : holds p es ≡ false → n ≤ length es → key (entryAt es (chosen rule rest es)) < win .s
+    dropped-before : holds p es ≡ false → n ≤ length es → key (entryAt es (chosen rule sees es)) < win .s
     dropped-before q full =
-        elim (decLt (key (entryAt es (chosen rule rest es))) (win .s)) [ yes h ↦ h | no h ↦ absurd (crowd (omega arith)) ]
+        elim (decLt (key (entryAt es (chosen rule sees es))) (win .s)) [ yes h ↦ h | no h ↦ absurd (crowd (omega arith)) ]
       where
-        within : win .s ≤ key (entryAt es (chosen rule rest es)) → Within (pages es) cov
+        within : win .s ≤ key (entryAt es (chosen rule sees es)) → Within (pages es) cov
         within h z k =
             let (i, l, e) = among-in z (pages es) k in
             let below : i < length es = omega (arith, pages-length es) in
-            rw (← e, pages-at es i) (win .asked i below (omega (arith, aged .least rest es i below)))
+            rw (← e, pages-at es i) (win .asked i below (omega (arith, aged .least sees es i below)))
 
         once : (z : ℕ) → times z (p ∷ pages es) ≤ 1
         once = once-cons p (pages es) (λ h. stranger q (among-in p (pages es) h)) (apart-once (pages es) (good .apart))
 
-        crowd : win .s ≤ key (entryAt es (chosen rule rest es)) → ⊥
+        crowd : win .s ≤ key (entryAt es (chosen rule sees es)) → ⊥
         crowd h = omega (arith, pages-length es, pigeonhole 1 (p ∷ pages es) cov once (within-cons p (pages es) cov asks (within h)))
 
-    since-stays : (z : ℕ) → Since (win .s) z es → Since (win .s) z (next rule n t p rest es)
-    since-stays z = next-since t p rest es good (win .s) z (win .begun) dropped-before
+    since-stays : (z : ℕ) → Since (win .s) z es → Since (win .s) z (next rule n t p sees es)
+    since-stays z = next-since t p sees es good (win .s) z (win .begun) dropped-before
 
-    asked-next : (i : ℕ) → i < length (next rule n t p rest es) → win .s ≤ key (entryAt (next rule n t p rest es) i)
-        → Among (entryAt (next rule n t p rest es) i .page .0) cov
+    asked-next : (i : ℕ) → i < length (next rule n t p sees es) → win .s ≤ key (entryAt (next rule n t p sees es) i)
+        → Among (entryAt (next rule n t p sees es) i .page .0) cov
     asked-next i h k =
-        ⊎-elim (λ x. rw (x .0) asks) (λ x. rw (x .1) (win .asked i (x .0) (rw (x .1) at k))) (next-fits t p rest es good i h)
+        ⊎-elim (λ x. rw (x .0) asks) (λ x. rw (x .1) (win .asked i (x .0) (rw (x .1) at k))) (next-fits t p sees es good i h)
 
-    window-steps : Window (suc t) cov (missed p es + r) (next rule n t p rest es)
+    window-steps : Window (suc t) cov (missed p es + r) (next rule n t p sees es)
     window-steps = go (holds p es) refl
       where
         -- the window with these faults
-        on : (l : List ℕ) → ((z : ℕ) → times z l ≤ 1) → ((z : ℕ) → Among z l → Since (win .s) z (next rule n t p rest es))
-            → (r' : ℕ) → length l ≡ r' → Window (suc t) cov r' (next rule n t p rest es)
+        on : (l : List ℕ) → ((z : ℕ) → times z l ≤ 1) → ((z : ℕ) → Among z l → Since (win .s) z (next rule n t p sees es))
+            → (r' : ℕ) → length l ≡ r' → Window (suc t) cov r' (next rule n t p sees es)
         on l once held r' count =
             record { s = win .s; begun = omega (arith, win .begun); faulted = l; count = count; once = once; held = held; asked = asked-next }
 
-        held : holds p es ≡ false → (z : ℕ) → (z ≡ p) ⊎ Among z (win .faulted) → Since (win .s) z (next rule n t p rest es)
-        held q z (inl e) = rw e (let (i, l, g, k) = next-loaded t p rest es good q in (i, l, g, omega (arith, win .begun)))
+        held : holds p es ≡ false → (z : ℕ) → (z ≡ p) ⊎ Among z (win .faulted) → Since (win .s) z (next rule n t p sees es)
+        held q z (inl e) = rw e (let (i, l, g, k) = next-loaded t p sees es good q in (i, l, g, omega (arith, win .begun)))
         held q z (inr h) = since-stays z (win .held z h)
 
         new : holds p es ≡ false → Among p (win .faulted) → ⊥
         new q h = let (i, l, e, k) = win .held p h in stranger q (i, omega (arith, pages-length es), pages-at es i ∙ e)
 
-        go : (b : Bool) → holds p es ≡ b → Window (suc t) cov (pick b 0 1 + r) (next rule n t p rest es)
+        go : (b : Bool) → holds p es ≡ b → Window (suc t) cov (pick b 0 1 + r) (next rule n t p sees es)
         go true q = on (win .faulted) (win .once) (λ z h. since-stays z (win .held z h)) (0 + r) (omega (arith, win .count))
         go false q =
             on (p ∷ win .faulted) (once-cons p (win .faulted) (new q) (win .once)) (λ z h. held q z (among-cons z p (win .faulted) h))
@@ -223,10 +224,10 @@ module _ (rule : Rule) (key : Entry → ℕ) (aged : Aged rule key) (n : ℕ) (p
 
   pub aged-frugal : Frugal rule n 1
   aged-frugal = record {
-    Sound = Sound;
+    Steady = Steady;
     Window = Window;
     empty = record { apart = apart-nil; size = omega arith; past = λ i h. absurd (omega arith) };
-    sound = next-sound;
+    steady = next-steady;
     opens = window-opens;
     widens = window-widens;
     steps = window-steps;
@@ -240,7 +241,7 @@ unfolding drops lruDrops
 lru-aged = record {
   new = λ t p. refl;
   again = λ t e. inl refl;
-  least = λ rest es i h. leb-true _ _ (all-at _ zeroEntry es (chosen-drops Lru rest es (omega arith)) i h);
+  least = λ sees es i h. leb-true _ _ (all-at _ zeroEntry es (chosen-drops Lru sees es (omega arith)) i h);
 }
 
 pub fifo-aged : Aged Fifo (λ (e : Entry). e .loaded .0)
@@ -248,5 +249,5 @@ unfolding drops fifoDrops
 fifo-aged = record {
   new = λ t p. refl;
   again = λ t e. inr refl;
-  least = λ rest es i h. leb-true _ _ (all-at _ zeroEntry es (chosen-drops Fifo rest es (omega arith)) i h);
+  least = λ sees es i h. leb-true _ _ (all-at _ zeroEntry es (chosen-drops Fifo sees es (omega arith)) i h);
 }

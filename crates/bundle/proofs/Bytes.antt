@@ -10,7 +10,7 @@ use lib.ListN.{length, getD, take, drop, set, length-append, length-take, length
 use lib.Seq.{length-take-le, take-suc, take-at, drop-append-add, drop-drop, sets-eq}
 use borrow.Author.Tests.{eq-eqb, ne-eqb}
 use Rattle.paging.specs.Rules.{mark}
-use Rattle.paging.specs.Plans.{mem, placeOf}
+use Rattle.paging.specs.Lists.{mem, placeOf}
 use Rattle.paging.specs.Calls.{marked, firstMark}
 use Rattle.paging.specs.Services.{laid}
 use Rattle.paging.proofs.Writing.{laid-whole}

@@ -8,8 +8,7 @@ use native.Mathlib.Decide.{ℕ-discrete}
 use lib.Dec.{eqb}
 use lib.ListN.{take}
 use borrow.Author.Tests.{ne-eqb}
-use Rattle.paging.specs.Lists.{pick, not, both, all}
-use Rattle.paging.specs.Plans.{mem}
+use Rattle.paging.specs.Lists.{pick, not, both, all, mem}
 use Rattle.paging.proofs.Lists.{all-map}
 use Rattle.cache.specs.Sound.{pairwise}
 

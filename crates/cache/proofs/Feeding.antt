@@ -1,11 +1,11 @@
 -- Feed: it keeps a record sound, drops a page that is unique, and feeding a trace from a fresh record gives the walk.
 --
--- In order: Feed where nothing is refused; soundness; the page dropped; the requests to come play no part; feeding a trace.
+-- In order: Feed where nothing is refused; soundness; the page dropped; feeding a trace.
 -- Assumes nothing.
 use mathlib.Core.Path.{_≡_, refl, sym, ap, ap₂, _∙_}
 use mathlib.Core.Bool.{Bool, true, false}
 use mathlib.Core.List.{List, [], _∷_, map}
-use Prim.Native.Nat.{ℕ, _+_, _-_, _≤_, _<_}
+use Prim.Native.Nat.{ℕ, suc, _+_, _-_, _≤_, _<_}
 use native.Mathlib.Numerals.{add-one}
 use native.Mathlib.Omega.{arith}
 use lib.Dec.{eqb}
@@ -13,17 +13,17 @@ use lib.ListN.{length, replicate, length-append, length-replicate}
 use lib.Seq.{take-append-seam}
 use borrow.Author.Tests.{ne-eqb, eqb-false}
 use Rattle.paging.specs.Lists.{pick, any}
-use Rattle.paging.specs.Rules.{mark, ruleNumbered, named, drops, chosen}
-use Rattle.paging.specs.Walk.{entryAt, outcome, next, outcomes, faultsIn, planIn, faults, plan}
+use Rattle.paging.specs.Rules.{mark, between, noRequests, ruleNumbered, named, drops}
+use Rattle.paging.specs.Walk.{entryAt, next, outcomes, faultsIn, planIn, faults, plan}
 use Rattle.paging.specs.Calls.{frameLimit, marked}
 use Rattle.paging.specs.declared.Entry.{Entry}
 use Rattle.paging.specs.declared.Gate.the-variants.{Open}
-use Rattle.paging.specs.declared.Rule.{Rule}
-use Rattle.paging.specs.declared.Rule.the-variants.{Lru, Fifo, Min, Lru2}
+use Rattle.paging.specs.declared.Rule.the-variants.{Min}
 use Rattle.paging.specs.declared.Outcome.{Outcome}
 use Rattle.paging.specs.declared.Outcome.the-variants as O
 use Rattle.paging.proofs.Lists.{false≢true}
 use Rattle.paging.proofs.Frames.{next-size}
+use Rattle.paging.proofs.Sight.{outcomes-past, outcome-blind, next-blind}
 use Rattle.cache.specs.declared.Cache.{Cache}
 use Rattle.cache.specs.declared.Reply.{Reply}
 use Rattle.cache.specs.declared.Fed.{Fed}
@@ -43,15 +43,15 @@ unfolding fed
 fed-open c p s page clock = rw (s, ne-eqb p mark page, ne-eqb (c .clock) 8000 clock)
 
 -- the entries in use after a request are those of the walk
-pub served-held : (c : Cache) (p : ℕ) → heldEntries (served c p .next) ≡ next (ruleOf c) (c .frames) (c .clock) p [] (heldEntries c)
+pub served-held : (c : Cache) (p : ℕ) → heldEntries (served c p .next) ≡ next (ruleOf c) (c .frames) (c .clock) p noRequests (heldEntries c)
 unfolding served
-served-held c p = take-append-seam (next (ruleOf c) (c .frames) (c .clock) p [] (heldEntries c)) _
+served-held c p = take-append-seam (next (ruleOf c) (c .frames) (c .clock) p noRequests (heldEntries c)) _
 
 pub served-size : (c : Cache) (p : ℕ) → length (c .entries) ≡ 256 → Sound c → length (served c p .next .entries) ≡ 256
 unfolding served
 served-size c p size s =
-    let es : List Entry = next (ruleOf c) (c .frames) (c .clock) p [] (heldEntries c) in
-    let l : length es ≤ c .frames = next-size (ruleOf c) (c .frames) (c .clock) p [] (heldEntries c) (omega (arith, held-length c size s, s .held-frames)) in
+    let es : List Entry = next (ruleOf c) (c .frames) (c .clock) p noRequests (heldEntries c) in
+    let l : length es ≤ c .frames = next-size (ruleOf c) (c .frames) (c .clock) p noRequests (heldEntries c) (omega (arith, held-length c size s, s .held-frames)) in
     omega (arith, length-append es (replicate (frameLimit - length es) blankEntry), length-replicate (frameLimit - length es) blankEntry, s .frames-most)
 
 -- ---- FEED KEEPS A RECORD SOUND
@@ -73,29 +73,12 @@ fed-sound c p size s = go (eqb p mark) (eqb (c .clock) 8000) refl refl
 -- ---- THE PAGE DROPPED IS UNIQUE, on a sound record: only one entry fits the rule's description
 
 pub dropped-one : (c : Cache) → length (c .entries) ≡ 256 → sound c ≡ true → (i j : ℕ) → i < heldOf c → j < heldOf c
-    → drops (ruleOf c) [] (heldEntries c) (entryAt (heldEntries c) i) ≡ true
-    → drops (ruleOf c) [] (heldEntries c) (entryAt (heldEntries c) j) ≡ true → i ≡ j
+    → drops (ruleOf c) noRequests (heldEntries c) (entryAt (heldEntries c) i) ≡ true
+    → drops (ruleOf c) noRequests (heldEntries c) (entryAt (heldEntries c) j) ≡ true → i ≡ j
 dropped-one c size s i j h k =
     let w : Sound c = sound-is c s in
-    drops-one (c .clock) (heldEntries c) (w .orderly) (ruleOf c) [] (not-min c size w) i j
+    drops-one (c .clock) (heldEntries c) (w .orderly) (ruleOf c) noRequests (not-min c size w) i j
     (omega (arith, held-length c size w)) (omega (arith, held-length c size w))
-
--- ---- the requests to come play no part, but for MIN
-
-chosen-now : (rule : Rule) (rest : List ℕ) (es : List Entry) → (rule ≡ Min → ⊥) → chosen rule rest es ≡ chosen rule [] es
-unfolding chosen drops
-chosen-now Lru rest es fed = refl
-chosen-now Fifo rest es fed = refl
-chosen-now Min rest es fed = absurd (fed refl)
-chosen-now Lru2 rest es fed = refl
-
-outcome-now : (rule : Rule) (n p : ℕ) (rest : List ℕ) (es : List Entry) → (rule ≡ Min → ⊥) → outcome rule n p rest es ≡ outcome rule n p [] es
-unfolding outcome
-outcome-now rule n p rest es fed = rw (chosen-now rule rest es fed)
-
-next-now : (rule : Rule) (n t p : ℕ) (rest : List ℕ) (es : List Entry) → (rule ≡ Min → ⊥) → next rule n t p rest es ≡ next rule n t p [] es
-unfolding next
-next-now rule n t p rest es fed = rw (chosen-now rule rest es fed)
 
 -- ---- FEEDING A TRACE
 
@@ -112,9 +95,10 @@ pub outcomes-step : (c : Cache) (p : ℕ) (ps : List ℕ) → (ruleOf c ≡ Min 
 unfolding served outcomes
 outcomes-step c p ps fed =
     let es : List Entry = heldEntries c in
-    ap₂ (λ (o : Outcome) (os : List Outcome). o ∷ os) (outcome-now (ruleOf c) (c .frames) p ps es fed)
-    (ap₂ (λ (t : ℕ) (new : List Entry). outcomes (ruleOf c) (c .frames) t ps new) (sym (add-one (c .clock)))
-    (next-now (ruleOf c) (c .frames) (c .clock) p ps es fed ∙ sym (served-held c p)))
+    ap₂ (λ (o : Outcome) (os : List Outcome). o ∷ os) (outcome-blind (ruleOf c) fed (between [] ps) noRequests es (c .frames) p)
+    (outcomes-past (ruleOf c) (c .frames) (suc (c .clock)) (p ∷ []) [] ps (next (ruleOf c) (c .frames) (c .clock) p (between [] ps) es)
+    ∙ ap₂ (λ (t : ℕ) (new : List Entry). outcomes (ruleOf c) (c .frames) t [] ps new) (sym (add-one (c .clock)))
+    (next-blind (ruleOf c) fed (between [] ps) noRequests es (c .frames) (c .clock) p ∙ sym (served-held c p)))
 
 -- a record that can be fed these requests without a refusal
 pub record Fits (c : Cache) (ps : List ℕ) : Type 0 where
@@ -168,7 +152,7 @@ faults-of-replies (O.Dropped p ∷ os) = ap (λ (k : ℕ). 1 + k) (faults-of-rep
 -- rule 1, 2 or 4 by its number, 1 to 256 frames, up to 8,000 requests without the mark
 module _ (rule n : ℕ) (trace : List ℕ) (feeds : feedable rule ≡ true) (some : 1 ≤ n) (most : n ≤ 256) (short : length trace ≤ 8000) (clean : marked trace ≡ false) where
   -- the replies are the walk's outcomes
-  pub feeding-gives-the-walk : feeding (emptyCache rule n) trace ≡ map replyOf (outcomes (named (ruleNumbered rule)) n 0 trace [])
+  pub feeding-gives-the-walk : feeding (emptyCache rule n) trace ≡ map replyOf (outcomes (named (ruleNumbered rule)) n 0 [] trace [])
   feeding-gives-the-walk =
       feeding-walks trace (emptyCache rule n)
       (fits-first (emptyCache rule n) trace refl (is-sound (emptyCache rule n) (empty-sound rule n feeds some most)) (omega arith) clean)
@@ -176,16 +160,16 @@ module _ (rule n : ℕ) (trace : List ℕ) (feeds : feedable rule ≡ true) (som
   -- so they give the rule's plan
   pub feeding-gives-the-plan : fedPlan (feeding (emptyCache rule n) trace) ≡ plan (named (ruleNumbered rule)) n trace
   unfolding plan
-  feeding-gives-the-plan = ap fedPlan feeding-gives-the-walk ∙ plan-of-replies (outcomes (named (ruleNumbered rule)) n 0 trace [])
+  feeding-gives-the-plan = ap fedPlan feeding-gives-the-walk ∙ plan-of-replies (outcomes (named (ruleNumbered rule)) n 0 [] trace [])
 
   -- and its count
   pub feeding-gives-the-count : fedFaults (feeding (emptyCache rule n) trace) ≡ faults (named (ruleNumbered rule)) n trace
   unfolding faults
-  feeding-gives-the-count = ap fedFaults feeding-gives-the-walk ∙ faults-of-replies (outcomes (named (ruleNumbered rule)) n 0 trace [])
+  feeding-gives-the-count = ap fedFaults feeding-gives-the-walk ∙ faults-of-replies (outcomes (named (ruleNumbered rule)) n 0 [] trace [])
 
 -- THE SAME FROM FRESH: where its gate is open, up to 8,000 requests without the mark
 module _ (rule n : ℕ) (trace : List ℕ) (opens : freshOf rule n .gate ≡ Open) (short : length trace ≤ 8000) (clean : marked trace ≡ false) where
-  pub fresh-gives-the-walk : feeding (freshOf rule n .cache) trace ≡ map replyOf (outcomes (named (ruleNumbered rule)) n 0 trace [])
+  pub fresh-gives-the-walk : feeding (freshOf rule n .cache) trace ≡ map replyOf (outcomes (named (ruleNumbered rule)) n 0 [] trace [])
   fresh-gives-the-walk = let (f, h, k) = fresh-in-order rule n opens in rw (fresh-empty rule n opens) (feeding-gives-the-walk rule n trace f h k short clean)
 
   pub fresh-gives-the-plan : fedPlan (feeding (freshOf rule n .cache) trace) ≡ plan (named (ruleNumbered rule)) n trace

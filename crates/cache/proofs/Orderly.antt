@@ -12,13 +12,13 @@ use lib.Dec.{leb}
 use lib.ListN.{length, getD}
 use borrow.Author.Tests.{leb-true, eqb-false}
 use Rattle.paging.specs.Lists.{pick, both, implies, any, all}
-use Rattle.paging.specs.Rules.{mark, once, lruDrops, fifoDrops, lru2Drops, drops, chosen}
+use Rattle.paging.specs.Rules.{mark, Sees, once, lruDrops, fifoDrops, lru2Drops, drops, chosen}
 use Rattle.paging.specs.Walk.{zeroEntry, entryAt, pages, loadedAt, renewed, next}
 use Rattle.paging.specs.declared.Entry.{Entry}
 use Rattle.paging.specs.declared.Rule.{Rule}
 use Rattle.paging.specs.declared.Rule.the-variants.{Lru, Fifo, Min, Lru2}
 use Rattle.paging.proofs.Lists.{true≢false, bool-cases, both-first, both-second, implied, all-at, none-at, index-is}
-use Rattle.paging.proofs.Held.{In, Apart}
+use Rattle.paging.specs.Meanings.{In, Apart}
 use Rattle.paging.proofs.Frames.{pages-length, pages-at, Became, next-entry, next-apart}
 use Rattle.cache.specs.Sound.{moments}
 
@@ -84,13 +84,13 @@ moment-below clock e m w a = go (moment-cases e m a)
 
 -- ---- one request
 
-module _ (rule : Rule) (n t p : ℕ) (rest : List ℕ) (es : List Entry) (sound : Orderly t es) (page : p ≡ mark → ⊥) where
+module _ (rule : Rule) (n t p : ℕ) (sees : Sees) (es : List Entry) (sound : Orderly t es) (page : p ≡ mark → ⊥) where
   after : List Entry
-  after = next rule n t p rest es
+  after = next rule n t p sees es
 
   became : (i : ℕ) → i < length after → Became t p es i (entryAt after i)
   unfolding after
-  became = next-entry rule n t p rest es (sound .apart)
+  became = next-entry rule n t p sees es (sound .apart)
 
   next-unmarked : (i : ℕ) → i < length after → entryAt after i .page .0 ≡ mark → ⊥
   next-unmarked i h x = go (became i h)
@@ -147,11 +147,11 @@ module _ (rule : Rule) (n t p : ℕ) (rest : List ℕ) (es : List Entry) (sound 
       go (inr (inr (k, g, e))) = old k (subst (λ (y : Entry). In m (moments y)) e a)
 
   -- ONE REQUEST keeps entries in order
-  pub next-orderly : Orderly (suc t) (next rule n t p rest es)
+  pub next-orderly : Orderly (suc t) (next rule n t p sees es)
   unfolding after
   next-orderly =
       record {
-        apart = next-apart rule n t p rest es (sound .apart);
+        apart = next-apart rule n t p sees es (sound .apart);
         unmarked = next-unmarked;
         in-time = next-in-time;
         moments-apart = λ i j h k m a b. go i j h k m (moment-from i h m a) (moment-from j k m b);
@@ -161,7 +161,7 @@ module _ (rule : Rule) (n t p : ℕ) (rest : List ℕ) (es : List Entry) (sound 
           → ((m ≡ t) × (entryAt after i .page .0 ≡ p)) ⊎ ((m < t) × (i < length es) × In m (moments (entryAt es i)))
           → ((m ≡ t) × (entryAt after j .page .0 ≡ p)) ⊎ ((m < t) × (j < length es) × In m (moments (entryAt es j))) → i ≡ j
       go i j h k m (inl (x, u)) (inl (y, v)) =
-          next-apart rule n t p rest es (sound .apart) i j (omega (arith, pages-length after)) (omega (arith, pages-length after))
+          next-apart rule n t p sees es (sound .apart) i j (omega (arith, pages-length after)) (omega (arith, pages-length after))
           (pages-at after i ∙ u ∙ sym v ∙ sym (pages-at after j))
       go i j h k m (inl (x, u)) (inr (y, l, b)) = absurd (omega arith)
       go i j h k m (inr (x, l, a)) (inl (y, v)) = absurd (omega arith)
@@ -205,17 +205,17 @@ module _ (clock : ℕ) (es : List Entry) (sound : Orderly clock es) where
           (leb-true _ _ (all-at (by-earlier (entryAt es i)) zeroEntry es a j k)) (leb-true _ _ (all-at (by-earlier (entryAt es j)) zeroEntry es b i h))
 
   -- of two entries that fit a rule's description, other than MIN's, both are the same
-  pub drops-one : (rule : Rule) (rest : List ℕ) → (rule ≡ Min → ⊥) → (i j : ℕ) → i < length es → j < length es
-      → drops rule rest es (entryAt es i) ≡ true → drops rule rest es (entryAt es j) ≡ true → i ≡ j
+  pub drops-one : (rule : Rule) (sees : Sees) → (rule ≡ Min → ⊥) → (i j : ℕ) → i < length es → j < length es
+      → drops rule sees es (entryAt es i) ≡ true → drops rule sees es (entryAt es j) ≡ true → i ≡ j
   unfolding drops lruDrops fifoDrops
-  drops-one Lru rest fed i j h k a b =
+  drops-one Lru sees fed i j h k a b =
       same-moment i j _ h k (at-last (entryAt es i)) _ (at-last (entryAt es j)) (leb-true _ _ (all-at _ zeroEntry es a j k)) (leb-true _ _ (all-at _ zeroEntry es b i h))
-  drops-one Fifo rest fed i j h k a b =
+  drops-one Fifo sees fed i j h k a b =
       same-moment i j _ h k (at-loaded (entryAt es i)) _ (at-loaded (entryAt es j)) (leb-true _ _ (all-at _ zeroEntry es a j k)) (leb-true _ _ (all-at _ zeroEntry es b i h))
-  drops-one Min rest fed i j h k a b = absurd (fed refl)
-  drops-one Lru2 rest fed i j h k a b = lru2-one i j h k a b
+  drops-one Min sees fed i j h k a b = absurd (fed refl)
+  drops-one Lru2 sees fed i j h k a b = lru2-one i j h k a b
 
   -- so the frame of an entry that fits is the one chosen
-  pub chosen-is : (rule : Rule) (rest : List ℕ) → (rule ≡ Min → ⊥) → (i : ℕ) → i < length es → drops rule rest es (entryAt es i) ≡ true → chosen rule rest es ≡ i
+  pub chosen-is : (rule : Rule) (sees : Sees) → (rule ≡ Min → ⊥) → (i : ℕ) → i < length es → drops rule sees es (entryAt es i) ≡ true → chosen rule sees es ≡ i
   unfolding chosen
-  chosen-is rule rest fed i h d = index-is (drops rule rest es) zeroEntry es i h d (λ j k e. drops-one rule rest fed j i k h e d)
+  chosen-is rule sees fed i h d = index-is (drops rule sees es) zeroEntry es i h d (λ j k e. drops-one rule sees fed j i k h e d)

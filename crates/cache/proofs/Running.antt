@@ -2,7 +2,7 @@
 -- Assumes nothing.
 use mathlib.Core.Path.{_≡_, sym, ap, _∙_, subst}
 use mathlib.Core.Bool.{true, false}
-use mathlib.Core.List.{List, _∷_}
+use mathlib.Core.List.{List, [], _∷_}
 use Prim.Native.Nat.{ℕ, _+_, _≤_, _<_}
 use native.Mathlib.Numerals.{add-one}
 use native.Mathlib.Omega.{arith}
@@ -18,7 +18,8 @@ use Rattle.paging.specs.declared.Answer.the-variants.{Faults}
 use Rattle.paging.specs.declared.Refusal.the-variants.{UnknownRule}
 use Rattle.paging.proofs.Calls.{none-marked}
 use Rattle.paging.proofs.Services.{answered-open, written-open}
-use Rattle.calls.proofs.Chain.{InOrder, trace-open}
+use Rattle.paging.specs.Meanings.{InOrder}
+use Rattle.calls.proofs.Chain.{trace-open}
 use Rattle.paging.proofs.Writing.{outcomes-length, Reading, reading-starts, reading-steps, reading-ends}
 use Rattle.cache.specs.declared.Cache.{Cache}
 use Rattle.cache.specs.Record.{emptyCache, heldEntries, ruleOf, feedable, fedTests}
@@ -77,7 +78,7 @@ module _ (start : Cache) (trace words₀ : List ℕ) where
   running-ends words cur faults i r h =
       reading-ends (outcomesFrom start trace) words₀ words faults i
       (subst (λ (ps : List ℕ). Reading (outcomesFrom start trace) (outcomesFrom cur ps) words₀ words faults i) (drop-of-length-le trace h) (r .reading))
-      (let e : i ≡ length (outcomesFrom start trace) = omega (arith, r .passed, outcomes-length (ruleOf start) (start .frames) (start .clock) trace (heldEntries start)) in e)
+      (let e : i ≡ length (outcomesFrom start trace) = omega (arith, r .passed, outcomes-length (ruleOf start) (start .frames) (start .clock) [] trace (heldEntries start)) in e)
 
 -- ---- from an empty cache: the chain of tests, and what the loop asks for
 

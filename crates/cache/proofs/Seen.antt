@@ -11,10 +11,9 @@ use lib.Dec.{eqb, ltb, leb}
 use lib.ListN.{length, getD, set, replicate, length-set, length-replicate}
 use lib.Seq.{getD-set-same, getD-set-other, slice, slice-cons, slice-empty}
 use borrow.Author.Tests.{leb-true, ltb-true, eqb-true, eqb-false, eq-eqb, ne-eqb}
-use Rattle.paging.specs.Lists.{pick, not, both, any, all}
+use Rattle.paging.specs.Lists.{pick, not, both, any, all, mem}
 use Rattle.paging.specs.Rules.{mark, once}
 use Rattle.paging.specs.Walk.{zeroEntry, entryAt}
-use Rattle.paging.specs.Plans.{mem}
 use Rattle.paging.specs.Calls.{requestLimit}
 use Rattle.paging.specs.declared.Entry.{Entry}
 use Rattle.paging.proofs.Lists.{both-first, both-second}

@@ -14,16 +14,16 @@ use lib.Dec.{eqb, ltb, leb}
 use lib.ListN.{length, getD, drop, replicate, length-drop, take-append-drop, getD-replicate}
 use lib.Seq.{length-take-le, take-append-seam, drop-append-seam}
 use borrow.Author.Tests.{ltb-true, ltb-false, leb-true, eqb-true, eqb-false, lt-ltb, le-ltb, le-leb, eq-eqb, ne-eqb}
-use Rattle.paging.specs.Lists.{pick, not, both, all}
+use Rattle.paging.specs.Lists.{pick, not, both, all, mem}
 use Rattle.paging.specs.Rules.{mark}
 use Rattle.paging.specs.Walk.{zeroEntry, entryAt, pages}
-use Rattle.paging.specs.Plans.{mem}
 use Rattle.paging.specs.Calls.{frameLimit, outside}
 use Rattle.paging.specs.declared.Entry.{Entry}
 use Rattle.paging.specs.declared.Gate.the-variants.{Open, No}
 use Rattle.paging.specs.declared.Refusal.the-variants.{UnknownRule, FramesOutside}
 use Rattle.paging.proofs.Lists.{false≢true, both-first, both-second, both-true, all-at, at-all}
-use Rattle.paging.proofs.Held.{In, Apart, apart-nil, in-mem, not-in}
+use Rattle.paging.specs.Meanings.{In, Apart}
+use Rattle.paging.proofs.Held.{apart-nil, in-mem, not-in}
 use Rattle.paging.proofs.Frames.{pages-length, pages-at}
 use Rattle.cache.specs.declared.Cache.{Cache}
 use Rattle.cache.specs.declared.Fresh.{Fresh}

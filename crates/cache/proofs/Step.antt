@@ -14,7 +14,7 @@ use lib.ListN.{length, take, set, replicate, length-set}
 use lib.Seq.{length-take-le, getD-take, set-append-left, set-append-seam, append-snoc}
 use borrow.Author.Tests.{eqb-true, eq-eqb, le-leb}
 use Rattle.paging.specs.Lists.{pick, both, implies, any, all, indexOf}
-use Rattle.paging.specs.Rules.{mark, once, lruDrops, fifoDrops, lru2Drops, drops, chosen}
+use Rattle.paging.specs.Rules.{mark, noRequests, once, lruDrops, fifoDrops, lru2Drops, drops, chosen}
 use Rattle.paging.specs.Walk.{holds, frameOf, zeroEntry, entryAt, loadedAt, renewed, next}
 use Rattle.paging.specs.Calls.{frameLimit}
 use Rattle.paging.specs.declared.Entry.{Entry}
@@ -22,7 +22,7 @@ use Rattle.paging.specs.declared.Frame.{Frame}
 use Rattle.paging.specs.declared.Rule.the-variants.{Min}
 use Rattle.paging.proofs.Lists.{bool-cases, both-true, implies-true, any-index, index-passes, at-any, at-none, none-at, at-all, index-at, length-snoc}
 use Rattle.paging.proofs.Choice.{chosen-below}
-use Rattle.paging.proofs.Frames.{held-frame, outcome-hit, outcome-room, outcome-full, next-hit, next-room, next-full, next-size, next-grows}
+use Rattle.paging.proofs.Frames.{holds-any, frame-index, held-frame, outcome-hit, outcome-room, outcome-full, next-hit, next-room, next-full, next-size, next-grows}
 use Rattle.cache.specs.declared.Cache.{Cache}
 use Rattle.cache.specs.declared.Found.the-variants.{At, Nothing}
 use Rattle.cache.specs.declared.Served.{Served}
@@ -46,9 +46,10 @@ module _ (es : List Entry) (held p : ℕ) (room : held ≤ length es) where
   found-at i h e none =
       let l : i < length (take held es) = omega (arith, length-take-le held es room) in
       let q : eqb (entryAt (take held es) i .page .0) p ≡ true = eq-eqb _ _ (ap (λ (d : Entry). d .page .0) (front-at i h) ∙ e) in
-      let y : holds p (take held es) ≡ true = at-any (λ (d : Entry). eqb (d .page .0) p) zeroEntry (take held es) i l q in
+      let y : holds p (take held es) ≡ true = holds-any p (take held es) ∙ at-any (λ (d : Entry). eqb (d .page .0) p) zeroEntry (take held es) i l q in
       let f : frameOf p (take held es) ≡ i =
-      index-at (λ (d : Entry). eqb (d .page .0) p) zeroEntry (take held es) i l q
+      frame-index p (take held es)
+      ∙ index-at (λ (d : Entry). eqb (d .page .0) p) zeroEntry (take held es) i l q
       (λ j k x. none j k (sym (ap (λ (d : Entry). d .page .0) (front-at j (omega arith))) ∙ eqb-true _ _ x)) in
       rw (y, f)
 
@@ -56,7 +57,8 @@ module _ (es : List Entry) (held p : ℕ) (room : held ≤ length es) where
   unfolding foundIn
   found-none none =
       let y : holds p (take held es) ≡ false =
-      at-none (λ (d : Entry). eqb (d .page .0) p) zeroEntry (take held es)
+      holds-any p (take held es)
+      ∙ at-none (λ (d : Entry). eqb (d .page .0) p) zeroEntry (take held es)
       (λ j k x.
       let l : j < held = omega (arith, length-take-le held es room) in
       none j l (sym (ap (λ (d : Entry). d .page .0) (front-at j l)) ∙ eqb-true _ _ x)) in
@@ -161,9 +163,9 @@ module _ (c : Cache) (size : length (c .entries) ≡ 256) (s : Sound c) where
 
   -- THE LEAST KEY is the frame chosen
   pub key-chosen : (i : ℕ) → i < heldOf c → ((j : ℕ) → j < heldOf c → keyOf (c .rule) (entryAt (c .entries) i) ≤ keyOf (c .rule) (entryAt (c .entries) j))
-      → i ≡ chosen (ruleOf c) [] (heldEntries c)
+      → i ≡ chosen (ruleOf c) noRequests (heldEntries c)
   unfolding drops lruDrops fifoDrops LeastBy lru2-key
-  key-chosen i h least = sym (chosen-is (c .clock) es (s .orderly) (ruleOf c) [] not-min i inside (go (feed-cases (c .rule) (s .feeds))))
+  key-chosen i h least = sym (chosen-is (c .clock) es (s .orderly) (ruleOf c) noRequests not-min i inside (go (feed-cases (c .rule) (s .feeds))))
     where
       es : List Entry
       es = heldEntries c
@@ -177,7 +179,7 @@ module _ (c : Cache) (size : length (c .entries) ≡ 256) (s : Sound c) where
           let l : j < heldOf c = omega (arith, held-length c size s) in
           rw (entry-held i h, entry-held j l, ← x) (least j l)
 
-      go : (c .rule ≡ 1) ⊎ (c .rule ≡ 2) ⊎ (c .rule ≡ 4) → drops (ruleOf c) [] es (entryAt es i) ≡ true
+      go : (c .rule ≡ 1) ⊎ (c .rule ≡ 2) ⊎ (c .rule ≡ 4) → drops (ruleOf c) noRequests es (entryAt es i) ≡ true
       go (inl x) = rw x (all-least (c .clock) es (s .orderly) (s .clock-most) i inside (λ (e : Entry). e .last .0) (least-by 1 x))
       go (inr (inl x)) = rw x (all-least (c .clock) es (s .orderly) (s .clock-most) i inside (λ (e : Entry). e .loaded .0) (least-by 2 x))
       go (inr (inr x)) = rw x (lru2-least (c .clock) es (s .orderly) (s .clock-most) i inside (least-by 4 x))
@@ -230,7 +232,7 @@ module _ (c : Cache) (size : length (c .entries) ≡ 256) (s : Sound c) (p : ℕ
       let k : f < heldOf c = omega (arith, held-length c size s) in
       let x : Entry = renewed (c .clock) (entryAt es f) in (
         omega (arith, s .held-frames, s .frames-most),
-        rw (outcome-hit (ruleOf c) (c .frames) (c .clock) p [] es q, next-hit (ruleOf c) (c .frames) (c .clock) p [] es q, ← entry-held c size s f k)
+        rw (outcome-hit (ruleOf c) (c .frames) (c .clock) p noRequests es q, next-hit (ruleOf c) (c .frames) (c .clock) p noRequests es q, ← entry-held c size s f k)
             (ap (served-as Hit) (written f (heldOf c) x (set es f x) (omega (arith, held-length c size s, length-set es f x)) (padded-set es f x h))),
       )
 
@@ -241,17 +243,17 @@ module _ (c : Cache) (size : length (c .entries) ≡ 256) (s : Sound c) (p : ℕ
       let x : Entry = loadedAt (c .clock) p in
       let l : length es ≡ heldOf c = held-length c size s in
       let k : length es < c .frames = omega arith in
-      rw (outcome-room (ruleOf c) (c .frames) (c .clock) p [] es q k, next-room (ruleOf c) (c .frames) (c .clock) p [] es q k)
+      rw (outcome-room (ruleOf c) (c .frames) (c .clock) p noRequests es q k, next-room (ruleOf c) (c .frames) (c .clock) p noRequests es q k)
       (ap (served-as Loaded)
       (written (heldOf c) (heldOf c + 1) x (es ++ (x ∷ [])) (omega (arith, length-snoc zeroEntry es x))
       (ap (λ (j : ℕ). set (padded es) j x) (sym l) ∙ padded-snoc es x (omega (arith, s .frames-most)))))
 
   pub served-full : holds p (heldEntries c) ≡ false → c .frames ≤ heldOf c
-      → (chosen (ruleOf c) [] (heldEntries c) < 256)
+      → (chosen (ruleOf c) noRequests (heldEntries c) < 256)
       × (_≡_ {A = Served}
       (record {
-        outcome = Dropped (entryAt (c .entries) (chosen (ruleOf c) [] (heldEntries c)) .page);
-        next = placed c (chosen (ruleOf c) [] (heldEntries c)) (loadedAt (c .clock) p) (heldOf c);
+        outcome = Dropped (entryAt (c .entries) (chosen (ruleOf c) noRequests (heldEntries c)) .page);
+        next = placed c (chosen (ruleOf c) noRequests (heldEntries c)) (loadedAt (c .clock) p) (heldOf c);
       })
       (served c p))
   unfolding served es
@@ -259,12 +261,12 @@ module _ (c : Cache) (size : length (c .entries) ≡ 256) (s : Sound c) (p : ℕ
       let x : Entry = loadedAt (c .clock) p in
       let l : length es ≡ heldOf c = held-length c size s in
       let k : c .frames ≤ length es = omega arith in
-      let f : ℕ = chosen (ruleOf c) [] es in
-      let m : f < length es = chosen-below (ruleOf c) [] es (omega (arith, s .frames-some)) in (
+      let f : ℕ = chosen (ruleOf c) noRequests es in
+      let m : f < length es = chosen-below (ruleOf c) noRequests es (omega (arith, s .frames-some)) in (
         omega (arith, s .held-frames, s .frames-most),
         rw (
-          outcome-full (ruleOf c) (c .frames) (c .clock) p [] es q k,
-          next-full (ruleOf c) (c .frames) (c .clock) p [] es q k,
+          outcome-full (ruleOf c) (c .frames) (c .clock) p noRequests es q k,
+          next-full (ruleOf c) (c .frames) (c .clock) p noRequests es q k,
           ← entry-held c size s f (omega arith),
         )
             (ap (served-as (Dropped (entryAt es f .page))) (written f (heldOf c) x (set es f x) (omega (arith, length-set es f x)) (padded-set es f x m))),
@@ -276,7 +278,7 @@ pub served-sound : (c : Cache) (p : ℕ) → length (c .entries) ≡ 256 → Sou
 unfolding served
 served-sound c p size s h page =
     let l : length (heldEntries c) ≡ heldOf c = held-length c size s in
-    holding-sound c (next (ruleOf c) (c .frames) (c .clock) p [] (heldEntries c)) s h
-    (next-size (ruleOf c) (c .frames) (c .clock) p [] (heldEntries c) (omega (arith, s .held-frames)))
-    (omega (arith, next-grows (ruleOf c) (c .frames) (c .clock) p [] (heldEntries c), s .held-clock))
-    (next-orderly (ruleOf c) (c .frames) (c .clock) p [] (heldEntries c) (s .orderly) page)
+    holding-sound c (next (ruleOf c) (c .frames) (c .clock) p noRequests (heldEntries c)) s h
+    (next-size (ruleOf c) (c .frames) (c .clock) p noRequests (heldEntries c) (omega (arith, s .held-frames)))
+    (omega (arith, next-grows (ruleOf c) (c .frames) (c .clock) p noRequests (heldEntries c), s .held-clock))
+    (next-orderly (ruleOf c) (c .frames) (c .clock) p noRequests (heldEntries c) (s .orderly) page)

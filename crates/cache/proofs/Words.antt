@@ -10,9 +10,8 @@ use lib.Dec.{eqb}
 use lib.ListN.{length, getD, set, take, drop, drop-of-length-le}
 use lib.Seq.{take-all, take-suc, take-suc-set, drop-cons}
 use borrow.Author.Tests.{eq-eqb, ne-eqb}
-use Rattle.paging.specs.Lists.{pick, not, both, any}
+use Rattle.paging.specs.Lists.{pick, not, both, any, mem}
 use Rattle.paging.specs.Walk.{entryAt, pages}
-use Rattle.paging.specs.Plans.{mem}
 use Rattle.paging.specs.declared.Entry.{Entry}
 use Rattle.paging.proofs.Frames.{pages-length, pages-at}
 use Rattle.cache.specs.declared.Cache.{Cache}

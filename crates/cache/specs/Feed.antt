@@ -4,7 +4,7 @@ use mathlib.Core.List.{List, [], _∷_}
 use Prim.Native.Nat.{ℕ, _+_}
 use lib.Dec.{eqb}
 use Rattle.paging.specs.Lists.{not}
-use Rattle.paging.specs.Rules.{mark}
+use Rattle.paging.specs.Rules.{mark, noRequests}
 use Rattle.paging.specs.Walk.{outcome, next}
 use Rattle.paging.specs.Calls.{requestLimit, Test, test, gate}
 use Rattle.paging.specs.declared.Gate.{Gate}
@@ -24,8 +24,8 @@ unfoldable pub served : Cache → ℕ → Served
 unfolding outcome next
 served c p =
     record {
-      outcome = outcome (ruleOf c) (c .frames) p [] (heldEntries c);
-      next = holding c (next (ruleOf c) (c .frames) (c .clock) p [] (heldEntries c));
+      outcome = outcome (ruleOf c) (c .frames) p noRequests (heldEntries c);
+      next = holding c (next (ruleOf c) (c .frames) (c .clock) p noRequests (heldEntries c));
     }
 
 -- in Feed's words

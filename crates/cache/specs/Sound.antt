@@ -5,9 +5,8 @@ use mathlib.Core.Bool.{Bool, true}
 use Prim.Native.Nat.{ℕ}
 use lib.Dec.{eqb, ltb, leb}
 use lib.ListN.{drop}
-use Rattle.paging.specs.Lists.{pick, not, both, all}
+use Rattle.paging.specs.Lists.{pick, not, both, all, mem}
 use Rattle.paging.specs.Rules.{mark, once}
-use Rattle.paging.specs.Plans.{mem}
 use Rattle.paging.specs.Calls.{requestLimit, outside}
 use Rattle.paging.specs.declared.Entry.{Entry}
 use Rattle.cache.specs.declared.Cache.{Cache}

@@ -1,6 +1,6 @@
 -- Devices of the inner step: what the private functions answer. Document 01's words are in Record, Sound and Feed; proofs/Step.antt ties these to them.
 -- Assumes nothing.
-use mathlib.Core.List.{List}
+use mathlib.Core.List.{List, []}
 use Prim.Native.Nat.{ℕ, _+_}
 use lib.Dec.{eqb}
 use lib.ListN.{set}
@@ -34,4 +34,4 @@ placed c frame e held =
 
 -- what feeding requests to a record comes to
 abbrev pub outcomesFrom : Cache → List ℕ → List Outcome
-outcomesFrom c ps = outcomes (ruleOf c) (c .frames) (c .clock) ps (heldEntries c)
+outcomesFrom c ps = outcomes (ruleOf c) (c .frames) (c .clock) [] ps (heldEntries c)

@@ -5,10 +5,9 @@ pub mod runs;
 mod sound;
 
 ghost use mathlib.Core.Path.{_≡_};
-ghost use mathlib.Core.List.{[]};
 ghost use mathlib.Core.Bool.{true, false};
 ghost use Prim.Native.Nat.{_≤_, _<_};
-ghost use Rattle.paging.specs.Rules.{chosen};
+ghost use Rattle.paging.specs.Rules.{chosen, noRequests};
 ghost use Rattle.paging.specs.Walk.{holds, loadedAt, renewed};
 ghost use Rattle.cache.specs.Record.{blankEntry, blankCache, emptyCache, feedable, freshOf, heldOf, heldEntries, ruleOf};
 ghost use Rattle.cache.specs.Sound.{sound};
@@ -198,7 +197,7 @@ impl Cache {
     // The frame whose page the rule drops: the one with the least key.
     fn victim(self) -> Frame
         requires { ⌜ (sound self ≡ true) × (0 < heldOf self) ⌝ }
-        ensures { λ r. ⌜ r .0 ≡ chosen (ruleOf self) [] (heldEntries self) ⌝ }
+        ensures { λ r. ⌜ r .0 ≡ chosen (ruleOf self) noRequests (heldEntries self) ⌝ }
     {
         let rule = self.rule;
         let held = self.held as usize;

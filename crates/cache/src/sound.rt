@@ -1,9 +1,8 @@
 // When a record is sound. Moments are tested against a set of those seen, pages against the pages after them, so that a full record takes microseconds.
 ghost use mathlib.Core.Path.{_≡_};
 ghost use Prim.Native.Nat.{_≤_};
-ghost use Rattle.paging.specs.Plans.{mem};
 ghost use Rattle.paging.specs.Walk.{pages};
-ghost use Rattle.paging.specs.Lists.{all};
+ghost use Rattle.paging.specs.Lists.{all, mem};
 ghost use Rattle.paging.specs.Calls.{frameLimit, requestLimit};
 ghost use lib.ListN.{drop};
 ghost use Rattle.cache.specs.Record.{heldOf, heldEntries};

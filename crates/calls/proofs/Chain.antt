@@ -11,10 +11,10 @@ use native.Mathlib.Omega.{arith}
 use lib.Dec.{ltb}
 use lib.ListN.{length, getD}
 use borrow.Author.Tests.{le-ltb, ltb-false}
-use Rattle.paging.specs.Lists.{pick}
+use Rattle.paging.specs.Lists.{pick, mem, placeOf}
 use Rattle.paging.specs.Rules.{mark}
-use Rattle.paging.specs.Plans.{mem, placeOf}
 use Rattle.paging.specs.Calls.{frameLimit, requestLimit, Test, gate, outside, marked, firstMark, traceTests, lentTests}
+use Rattle.paging.specs.Meanings.{InOrder}
 use Rattle.paging.specs.declared.Gate.{Gate}
 use Rattle.paging.specs.declared.Gate.the-variants.{Open, No}
 use Rattle.paging.specs.declared.Refusal.{Refusal}
@@ -61,13 +61,6 @@ open-behind false refusal rest e = (refl, e)
 neither : (a b : Bool) → pick a true b ≡ false → (a ≡ false) × (b ≡ false)
 neither true b e = absurd (true≢false e)
 neither false b e = (refl, e)
-
--- the call's sizes and pages are those of document 01, "Words and sizes"
-pub record InOrder (n : ℕ) (trace : List ℕ) : Type 0 where
-  pub one-frame : 1 ≤ n
-  pub frames : n ≤ frameLimit
-  pub requests : length trace ≤ requestLimit
-  pub pages : (t : ℕ) → t < length trace → getD trace t 0 ≡ mark → ⊥
 
 module _ (n : ℕ) (trace : List ℕ) where
   -- refusals 2, 3 and 4 are given exactly when the call is not in order

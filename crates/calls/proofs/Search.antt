@@ -11,8 +11,7 @@ use lib.Dec.{eqb}
 use lib.ListN.{length, getD, drop, drop-of-length-le}
 use lib.Seq.{drop-cons}
 use borrow.Author.Tests.{eq-eqb, ne-eqb}
-use Rattle.paging.specs.Lists.{indexOf}
-use Rattle.paging.specs.Plans.{mem, placeOf}
+use Rattle.paging.specs.Lists.{indexOf, mem, placeOf}
 use Rattle.paging.proofs.Lists.{bool-cases, index-le, any-index, index-passes, at-any}
 
 module _ (p : ℕ) (pages : List ℕ) (i : ℕ) where

@@ -2,7 +2,7 @@
 // A service takes the gate of its trace, adds its own tests, and goes on where the gate is open.
 // Beside it: where a page stands in a list of pages, and document 01's numbers of an answer.
 ghost use mathlib.Core.Path.{_≡_};
-ghost use Rattle.paging.specs.Plans.{placeOf};
+ghost use Rattle.paging.specs.Lists.{placeOf};
 ghost use Rattle.paging.specs.Calls.{outside, gate, traceTests, ruleTests};
 ghost use Rattle.calls.specs.Chain.{lentGate};
 ghost use Rattle.calls.specs.Answers.{answerNumbers};

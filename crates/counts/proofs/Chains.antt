@@ -20,7 +20,7 @@ use Rattle.paging.specs.declared.Gate.the-variants.{Open, No}
 use Rattle.paging.proofs.Services.{answered-open, answered-no, written-open, written-no, answered-same, written-same}
 use Rattle.calls.proofs.Chain.{lent-open}
 use Rattle.cache.specs.Record.{feedable, fedTests}
-use Rattle.counts.specs.Counts.{countOf, planTests, planOf, wordsOf}
+use Rattle.counts.specs.Counts.{countOf, planTests, planAnswer, planWords}
 
 -- MIN is never refused by number
 pub min-tests : (n : ℕ) (trace : List ℕ) → gate (traceTests n trace) ≡ gate (ruleTests 3 n trace)
@@ -66,8 +66,8 @@ fed-answer rule n trace words e = (
 
 module _ (rule n : ℕ) (trace words : List ℕ) where
   pub plan-refused : (refusal : Refusal) → gate (planTests rule n trace words) ≡ No refusal
-      → (Refused refusal ≡ planOf rule n trace words) × (words ≡ wordsOf rule n trace words)
-  unfolding planOf wordsOf
+      → (Refused refusal ≡ planAnswer rule n trace words) × (words ≡ planWords rule n trace words)
+  unfolding planAnswer planWords
   plan-refused refusal e = (
     sym (answered-no (planTests rule n trace words) (named (ruleNumbered rule)) n trace refusal e),
     sym (written-no (planTests rule n trace words) (named (ruleNumbered rule)) n trace words refusal e),
@@ -80,14 +80,14 @@ module _ (rule n : ℕ) (trace words : List ℕ) where
     count-open = lent-open (ruleTests rule n trace) trace words .0 o
 
     -- Count and Write a plan answer the same number
-    pub same-answer : countOf rule n trace ≡ planOf rule n trace words
-    unfolding countOf planOf
+    pub same-answer : countOf rule n trace ≡ planAnswer rule n trace words
+    unfolding countOf planAnswer
     same-answer =
         answered-open (ruleTests rule n trace) (named (ruleNumbered rule)) n trace (count-open .0)
         ∙ sym (answered-open (planTests rule n trace words) (named (ruleNumbered rule)) n trace o)
 
-    pub same-words : written (ruleTests rule n trace) (named (ruleNumbered rule)) n trace words ≡ wordsOf rule n trace words
-    unfolding wordsOf
+    pub same-words : written (ruleTests rule n trace) (named (ruleNumbered rule)) n trace words ≡ planWords rule n trace words
+    unfolding planWords
     same-words =
         written-open (ruleTests rule n trace) (named (ruleNumbered rule)) n trace words (count-open .0)
         ∙ sym (written-open (planTests rule n trace words) (named (ruleNumbered rule)) n trace words o)

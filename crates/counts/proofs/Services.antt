@@ -23,12 +23,13 @@ use Rattle.paging.proofs.PlanRule.{check-extra}
 use Rattle.paging.proofs.Calls.{none-marked}
 use Rattle.paging.proofs.Services.{written-open}
 use Rattle.paging.proofs.Writing.{plan-length, laid-whole}
-use Rattle.calls.proofs.Chain.{InOrder, trace-open}
+use Rattle.paging.specs.Meanings.{InOrder}
+use Rattle.calls.proofs.Chain.{trace-open}
 use Rattle.cache.specs.Record.{emptyCache, feedable, freshOf}
 use Rattle.cache.specs.Feed.{feeding, fedPlan, fedFaults}
 use Rattle.cache.proofs.Soundness.{fresh-in-order, fresh-empty}
 use Rattle.cache.proofs.Feeding.{feeding-gives-the-plan, feeding-gives-the-count}
-use Rattle.counts.specs.Counts.{countOf, planTests, planOf, wordsOf}
+use Rattle.counts.specs.Counts.{countOf, planTests, planAnswer, planWords}
 use Rattle.counts.proofs.Chains.{count-open, same-answer}
 
 -- an answer of faults comes through an open gate
@@ -41,12 +42,12 @@ pub count-is : (rule n : ℕ) (trace : List ℕ) (f : ℕ) → countOf rule n tr
 unfolding countOf
 count-is rule n trace f e = answer-open (gate (ruleTests rule n trace)) f (faults (named (ruleNumbered rule)) n trace) e .1
 
-module _ (rule n : ℕ) (trace words : List ℕ) (f : ℕ) (said : planOf rule n trace words ≡ Faults f) where
+module _ (rule n : ℕ) (trace words : List ℕ) (f : ℕ) (said : planAnswer rule n trace words ≡ Faults f) where
   kind : Rule
   kind = named (ruleNumbered rule)
 
   accepted : (gate (planTests rule n trace words) ≡ Open) × (faults kind n trace ≡ f)
-  unfolding planOf kind
+  unfolding planAnswer kind
   accepted = answer-open (gate (planTests rule n trace words)) f (faults (named (ruleNumbered rule)) n trace) said
 
   -- an answered call is in order
@@ -62,15 +63,15 @@ module _ (rule n : ℕ) (trace words : List ℕ) (f : ℕ) (said : planOf rule n
   plan-long = plan-length kind n trace
 
   -- the first T words are the plan, the others are as they were lent
-  pub plan-then-rest : wordsOf rule n trace words ≡ plan (named (ruleNumbered rule)) n trace ++ drop (length trace) words
-  unfolding wordsOf kind
+  pub plan-then-rest : planWords rule n trace words ≡ plan (named (ruleNumbered rule)) n trace ++ drop (length trace) words
+  unfolding planWords kind
   plan-then-rest =
       written-open (planTests rule n trace words) kind n trace words (accepted .0)
       ∙ laid-whole (plan kind n trace) words (let h : length (plan kind n trace) ≤ length words = omega (arith, plan-long, count-open rule n trace words (accepted .0) .1) in h)
       ∙ ap (λ (k : ℕ). plan kind n trace ++ drop k words) plan-long
 
   -- WHAT WRITE A PLAN LEAVES keeps the plan rule for the same frames, with the faults that it answered
-  pub written-plan-accepted : check n trace (wordsOf rule n trace words) ≡ Faults f
+  pub written-plan-accepted : check n trace (planWords rule n trace words) ≡ Faults f
   unfolding kind
   written-plan-accepted =
       ap (check n trace) plan-then-rest
@@ -84,7 +85,7 @@ module _ (rule n : ℕ) (trace words : List ℕ) (f : ℕ) (said : planOf rule n
 
   -- FEEDING the trace from an empty cache of rule 1, 2 or 4 gives that plan and that number
   module _ (feeds : feedable rule ≡ true) where
-    pub feeding-gives-the-words : fedPlan (feeding (emptyCache rule n) trace) ≡ take (length trace) (wordsOf rule n trace words)
+    pub feeding-gives-the-words : fedPlan (feeding (emptyCache rule n) trace) ≡ take (length trace) (planWords rule n trace words)
     unfolding kind
     feeding-gives-the-words =
         feeding-gives-the-plan rule n trace feeds (in-order .one-frame) (in-order .frames) (in-order .requests) (none-marked trace (in-order .pages))
@@ -99,7 +100,7 @@ module _ (rule n : ℕ) (trace words : List ℕ) (f : ℕ) (said : planOf rule n
 
   -- THE SAME FROM FRESH, where its gate is open
   module _ (opens : freshOf rule n .gate ≡ Open) where
-    pub fresh-gives-the-words : fedPlan (feeding (freshOf rule n .cache) trace) ≡ take (length trace) (wordsOf rule n trace words)
+    pub fresh-gives-the-words : fedPlan (feeding (freshOf rule n .cache) trace) ≡ take (length trace) (planWords rule n trace words)
     fresh-gives-the-words = rw (fresh-empty rule n opens) (feeding-gives-the-words (fresh-in-order rule n opens .0))
 
     pub fresh-gives-the-number : fedFaults (feeding (freshOf rule n .cache) trace) ≡ f

@@ -17,11 +17,11 @@ unfoldable pub planTests : ℕ → ℕ → List ℕ → List ℕ → List Test
 unfolding ruleTests lentTests
 planTests rule n trace words = ruleTests rule n trace ++ lentTests trace words
 
-unfoldable pub planOf : ℕ → ℕ → List ℕ → List ℕ → Answer
+unfoldable pub planAnswer : ℕ → ℕ → List ℕ → List ℕ → Answer
 unfolding answered planTests
-planOf rule n trace words = answered (planTests rule n trace words) (named (ruleNumbered rule)) n trace
+planAnswer rule n trace words = answered (planTests rule n trace words) (named (ruleNumbered rule)) n trace
 
 -- what it leaves in the lent words
-unfoldable pub wordsOf : ℕ → ℕ → List ℕ → List ℕ → List ℕ
+unfoldable pub planWords : ℕ → ℕ → List ℕ → List ℕ → List ℕ
 unfolding written planTests
-wordsOf rule n trace words = written (planTests rule n trace words) (named (ruleNumbered rule)) n trace words
+planWords rule n trace words = written (planTests rule n trace words) (named (ruleNumbered rule)) n trace words

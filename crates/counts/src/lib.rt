@@ -3,7 +3,8 @@ ghost use mathlib.Core.Path.{_≡_};
 ghost use Rattle.paging.specs.Rules.{ruleNumbered, named};
 ghost use Rattle.paging.specs.Calls.{ruleTests};
 ghost use Rattle.paging.specs.Services.{answered, written};
-ghost use Rattle.counts.specs.Counts.{countOf, planOf, wordsOf};
+ghost use Rattle.calls.specs.Answers.{answerNumbers};
+ghost use Rattle.counts.specs.Counts.{countOf, planAnswer, planWords};
 use paging::Answer;
 use paging::Gate;
 
@@ -19,7 +20,7 @@ fn run(rule: u32, n: u32, trace: &[u32], words: &mut [u32]) -> Answer
 
 // Count: the faults of the rule with n frames, or refusal 1, 2, 3 or 4 in that order.
 pub fn count(rule: u32, n: u32, trace: &[u32]) -> Answer
-    ensures { λ r. ⌜ r ≡ countOf rule n (now (trace .entry)) ⌝ }
+    ensures { λ r. ⌜ (r ≡ countOf rule n (now (trace .entry))) × (answerNumbers r ≡ answerNumbers (countOf rule n (now (trace .entry)))) ⌝ }
 {
     let mut none = [0u32; 1];
     run(rule, n, trace, &mut none[..0])
@@ -27,7 +28,7 @@ pub fn count(rule: u32, n: u32, trace: &[u32]) -> Answer
 
 // Write a plan: the rule's plan in the first T words, every other word as it was. Refusals 1, 2, 3, 4, then 6, with all words as they were.
 pub fn write_plan(rule: u32, n: u32, trace: &[u32], words: &mut [u32]) -> Answer
-    ensures { λ r. ⌜ (r ≡ planOf rule n (now (trace .entry)) (now (words .entry))) × (now (words .exit) ≡ wordsOf rule n (now (trace .entry)) (now (words .entry))) ⌝ }
+    ensures { λ r. ⌜ (r ≡ planAnswer rule n (now (trace .entry)) (now (words .entry))) × (now (words .exit) ≡ planWords rule n (now (trace .entry)) (now (words .entry))) × (answerNumbers r ≡ answerNumbers (planAnswer rule n (now (trace .entry)) (now (words .entry)))) ⌝ }
 {
     match calls::lent_gate(calls::rule_gate(rule, n, trace), trace.len(), words.len()) {
         Gate::No(refusal) => Answer::Refused(refusal),

@@ -8,7 +8,7 @@ use lib.ListN.{length, length-take}
 use Rattle.paging.specs.Calls.{requestLimit}
 use Rattle.judge.specs.declared.Verdict.{Verdict}
 use Rattle.judge.specs.declared.Verdict.the-variants.{First, Second, Neither}
-use Rattle.judge.specs.Better.{wordsOf, betterOf, betterWords}
+use Rattle.judge.specs.Better.{namedWords, betterOf, betterWords}
 use Rattle.judge.proofs.Accepted.{accepted-open}
 use Rattle.judge.proofs.TwoPlans.{first-named, second-named}
 
@@ -16,7 +16,7 @@ pub words-few : (m : ℕ) (trace first second : List ℕ) → length (betterWord
 unfolding betterWords
 words-few m trace first second = go (betterOf m trace first second) refl
   where
-    go : (v : Verdict) → betterOf m trace first second ≡ v → length (wordsOf v (length trace) first second) ≤ requestLimit
+    go : (v : Verdict) → betterOf m trace first second ≡ v → length (namedWords v (length trace) first second) ≤ requestLimit
     go (First f) e =
         let (o, _, _) = accepted-open m trace first f (first-named m trace first second f e .0) in
         omega (arith, length-take (length trace) first, o .requests)

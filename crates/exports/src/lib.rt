@@ -5,7 +5,7 @@ pub mod caches; // caches.rt: Fresh, soundness and Feed
 
 ghost use mathlib.Core.Path.{_≡_};
 ghost use lib.ListN.{length};
-ghost use Rattle.counts.specs.Counts.{countOf, planOf, wordsOf};
+ghost use Rattle.counts.specs.Counts.{countOf, planAnswer, planWords};
 ghost use Rattle.judge.specs.Check.{checkOf};
 ghost use Rattle.judge.specs.Better.{betterOf, betterWords};
 ghost use Rattle.bundle.specs.Reading.{readOf, requestsLeft, planLeft};
@@ -60,8 +60,8 @@ pub extern "C" fn hedravos_plan(
     words: &mut [u32],
     answer: &mut [u32],
 )
-    ensures words { λ r. ⌜ now (words .exit) ≡ wordsOf rule n (now (trace .entry)) (now (words .entry)) ⌝ }
-    ensures answer { λ r. ⌜ now (answer .exit) ≡ laid (countWords (planOf rule n (now (trace .entry)) (now (words .entry)))) (now (answer .entry)) ⌝ }
+    ensures words { λ r. ⌜ now (words .exit) ≡ planWords rule n (now (trace .entry)) (now (words .entry)) ⌝ }
+    ensures answer { λ r. ⌜ now (answer .exit) ≡ laid (countWords (planAnswer rule n (now (trace .entry)) (now (words .entry)))) (now (answer .entry)) ⌝ }
 {
     put_count(counts::write_plan(rule, n, trace, words), answer);
 }

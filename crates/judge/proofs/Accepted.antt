@@ -25,8 +25,9 @@ use Rattle.paging.specs.declared.Refusal.{Refusal}
 use Rattle.paging.specs.declared.Refusal.the-variants.{PlanBroken}
 use Rattle.paging.proofs.Own.{own-plan-accepted}
 use Rattle.paging.proofs.Writing.{plan-length}
-use Rattle.paging.proofs.PlanRule.{KeepsAt, absences, accepted-exactly, accepted-count, refused-first}
-use Rattle.calls.proofs.Chain.{InOrder, trace-open, lent-open}
+use Rattle.paging.specs.Meanings.{InOrder, KeepsAt, absences}
+use Rattle.paging.proofs.PlanRule.{accepted-exactly, accepted-count, refused-first}
+use Rattle.calls.proofs.Chain.{trace-open, lent-open}
 use Rattle.judge.specs.Check.{checkOf}
 
 -- ---- the tests before the entries

@@ -9,8 +9,8 @@ use native.Mathlib.Numerals.{add-one}
 use native.Mathlib.Omega.{arith}
 use lib.ListN.{length, getD, drop, drop-of-length-le}
 use lib.Seq.{drop-cons}
-use Rattle.paging.specs.Lists.{pick}
-use Rattle.paging.specs.Plans.{mem, judged, after, absent, through, checkFrom}
+use Rattle.paging.specs.Lists.{pick, mem}
+use Rattle.paging.specs.Plans.{judged, after, absent, through, checkFrom}
 use Rattle.paging.specs.declared.Gate.{Gate}
 use Rattle.paging.specs.declared.Gate.the-variants.{Open, No}
 use Rattle.paging.specs.declared.Answer.the-variants.{Faults, Refused}

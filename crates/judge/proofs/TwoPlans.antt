@@ -18,7 +18,8 @@ use Rattle.paging.specs.declared.Gate.the-variants.{No}
 use Rattle.paging.specs.declared.Answer.{Answer}
 use Rattle.paging.specs.declared.Answer.the-variants.{Faults, Refused}
 use Rattle.paging.specs.declared.Refusal.{Refusal}
-use Rattle.calls.proofs.Chain.{InOrder, gate-append}
+use Rattle.paging.specs.Meanings.{InOrder}
+use Rattle.calls.proofs.Chain.{gate-append}
 use Rattle.judge.specs.declared.Verdict.the-variants.{First, Second, Neither}
 use Rattle.judge.specs.Check.{checkOf}
 use Rattle.judge.specs.Better.{fewer, betterOf, betterWords}

@@ -26,14 +26,14 @@ unfolding checkOf
 betterOf m trace first second = fewer (checkOf m trace first) (checkOf m trace second)
 
 -- the first T words of the plan that the verdict names; none, where it is a refusal
-abbrev pub wordsOf : Verdict → ℕ → List ℕ → List ℕ → List ℕ
-wordsOf (First f) requests first second = take requests first
-wordsOf (Second g) requests first second = take requests second
-wordsOf (Neither r) requests first second = take 0 first
+abbrev pub namedWords : Verdict → ℕ → List ℕ → List ℕ → List ℕ
+namedWords (First f) requests first second = take requests first
+namedWords (Second g) requests first second = take requests second
+namedWords (Neither r) requests first second = take 0 first
 
 unfoldable pub betterWords : ℕ → List ℕ → List ℕ → List ℕ → List ℕ
 unfolding betterOf
-betterWords m trace first second = wordsOf (betterOf m trace first second) (length trace) first second
+betterWords m trace first second = namedWords (betterOf m trace first second) (length trace) first second
 
 -- which of the two lent plans they are a part of: the first also where the verdict is a refusal
 abbrev pub lenderOf : {A : Type 0} → Verdict → A → A → A

@@ -2,16 +2,10 @@
 -- Assumes nothing.
 use mathlib.Core.List.{List, _++_}
 use Prim.Native.Nat.{ℕ}
-use lib.ListN.{take}
 use Rattle.paging.specs.Plans.{through, check}
 use Rattle.paging.specs.Calls.{gate, traceTests, lentTests}
 use Rattle.paging.specs.declared.Answer.{Answer}
-use Rattle.judge.specs.declared.Walk.{Walk}
 
 unfoldable pub checkOf : ℕ → List ℕ → List ℕ → Answer
 unfolding gate traceTests lentTests check
 checkOf m trace words = through (gate (traceTests m trace ++ lentTests trace words)) (check m trace words)
-
--- the pages held in a walk, in frame order
-abbrev pub pagesOf : Walk → List ℕ
-pagesOf walk = take (walk .count) (walk .pages)

@@ -6,12 +6,14 @@ ghost use mathlib.Core.Bool.{true, false};
 ghost use Prim.Native.Nat.{_+_, _<_, _≤_};
 ghost use lib.Dec.{eqb};
 ghost use lib.ListN.{length};
-ghost use Rattle.paging.specs.Lists.{pick};
+ghost use Rattle.paging.specs.Lists.{pick, mem, placeOf};
 ghost use Rattle.paging.specs.Rules.{mark};
 ghost use Rattle.paging.specs.declared.Gate.the-variants.{Open, No};
 ghost use Rattle.paging.specs.Calls.{requestLimit, frameLimit};
-ghost use Rattle.paging.specs.Plans.{mem, placeOf, judged, after, absent, check};
-ghost use Rattle.judge.specs.Check.{pagesOf, checkOf};
+ghost use Rattle.paging.specs.Plans.{judged, after, absent, check};
+ghost use Rattle.calls.specs.Answers.{answerNumbers};
+ghost use Rattle.judge.specs.Check.{checkOf};
+ghost use Rattle.judge.specs.Devices.{walkPages};
 ghost use Rattle.judge.specs.Better.{fewer, betterOf, betterWords, lenderOf, verdictNumbers};
 use paging::Answer;
 use paging::Frame;
@@ -24,7 +26,7 @@ use paging::Refusal;
 struct Walk {
     faults: u32,
     count: u32,
-    pages: [u32; 256],
+    pages: [u32; calls::FRAMES as usize],
 }
 
 // Which plan, and its faults; or the first plan's refusal.
@@ -56,7 +58,7 @@ impl Walk {
     fn start() -> Walk
         ensures { λ r. ⌜ (r .faults ≡ 0) × (r .count ≡ 0) ⌝ }
     {
-        let pages = [0u32; 256];
+        let pages = [0u32; calls::FRAMES as usize];
         Walk {
             faults: 0,
             count: 0,
@@ -67,7 +69,7 @@ impl Walk {
     // The frame that holds the page; the number of pages held, if none does.
     fn frame_of(self, p: Page) -> Frame
         requires { ⌜ self .count ≤ frameLimit ⌝ }
-        ensures { λ r. ⌜ r .0 ≡ placeOf (p .0) (pagesOf self) ⌝ }
+        ensures { λ r. ⌜ r .0 ≡ placeOf (p .0) (walkPages self) ⌝ }
     {
         let n = self.count as usize;
         let pages = self.pages;
@@ -78,7 +80,7 @@ impl Walk {
     // What is wrong with the entry `w` for a request of page `p` at moment `t` in `m` frames.
     fn judge_entry(self, m: u32, t: Moment, p: Page, w: Page) -> Gate
         requires { ⌜ self .count ≤ frameLimit ⌝ }
-        ensures { λ r. ⌜ r ≡ judged m (t .0) (pagesOf self) (p .0) (w .0) ⌝ }
+        ensures { λ r. ⌜ r ≡ judged m (t .0) (walkPages self) (p .0) (w .0) ⌝ }
     {
         let held = self.count;
         if self.frame_of(p).0 < held {
@@ -96,9 +98,9 @@ impl Walk {
     // The walk after a request of page `p`. Where a page must go, the entry `w` is a page that is held.
     fn served(self, m: u32, p: Page, w: Page) -> Walk
         requires sizes { ⌜ (m ≤ frameLimit) × (self .count ≤ m) × (self .faults < requestLimit) ⌝ }
-        requires goes { ⌜ (mem (p .0) (pagesOf self) ≡ false → m ≤ length (pagesOf self) → mem (w .0) (pagesOf self) ≡ true) ⌝ }
-        ensures pages { λ r. ⌜ pagesOf r ≡ after m (pagesOf self) (p .0) (w .0) ⌝ }
-        ensures faults { λ r. ⌜ r .faults ≡ self .faults + absent (p .0) (pagesOf self) ⌝ }
+        requires goes { ⌜ (mem (p .0) (walkPages self) ≡ false → m ≤ length (walkPages self) → mem (w .0) (walkPages self) ≡ true) ⌝ }
+        ensures pages { λ r. ⌜ walkPages r ≡ after m (walkPages self) (p .0) (w .0) ⌝ }
+        ensures faults { λ r. ⌜ r .faults ≡ self .faults + absent (p .0) (walkPages self) ⌝ }
         ensures count { λ r. ⌜ r .count ≤ m ⌝ }
     {
         let n = self.count;
@@ -139,7 +141,7 @@ fn walked(m: u32, trace: &[u32], words: &[u32]) -> Answer
 
 // Check: the faults of the plan in the first T words; else refusal 2, 3, 4 or 6, or 7 at the first entry that breaks the rule.
 pub fn check(m: u32, trace: &[u32], words: &[u32]) -> Answer
-    ensures { λ r. ⌜ r ≡ checkOf m (now (trace .entry)) (now (words .entry)) ⌝ }
+    ensures { λ r. ⌜ (r ≡ checkOf m (now (trace .entry)) (now (words .entry))) × (answerNumbers r ≡ answerNumbers (checkOf m (now (trace .entry)) (now (words .entry)))) ⌝ }
 {
     match calls::lent_gate(calls::trace_gate(m, trace), trace.len(), words.len()) {
         Gate::No(refusal) => Answer::Refused(refusal),
@@ -170,7 +172,7 @@ fn fewer(first: Answer, second: Answer) -> Verdict
 
 // Better of two, the verdict: the plan with fewer faults, and its count. Equal: the first. Neither accepted: the first plan's refusal.
 pub fn better(m: u32, trace: &[u32], first: &[u32], second: &[u32]) -> Verdict
-    ensures { λ r. ⌜ r ≡ betterOf m (now (trace .entry)) (now (first .entry)) (now (second .entry)) ⌝ }
+    ensures { λ r. ⌜ (r ≡ betterOf m (now (trace .entry)) (now (first .entry)) (now (second .entry))) × (verdictNumbers r ≡ verdictNumbers (betterOf m (now (trace .entry)) (now (first .entry)) (now (second .entry)))) ⌝ }
 {
     fewer(check(m, trace, first), check(m, trace, second))
 }

@@ -3,24 +3,23 @@
 use mathlib.Core.Path.{_≡_, refl, sym, ap, ap₂, _∙_}
 use mathlib.Core.Logic.{_⊎_, inl, inr, ⊎-elim}
 use mathlib.Core.Bool.{Bool, true, false}
-use mathlib.Core.List.{List, [], _∷_}
+use mathlib.Core.List.{List, [], _∷_, _++_}
 use Prim.Native.Nat.{ℕ, suc, _+_, _≤_, _<_}
 use native.Mathlib.Omega.{arith}
 use lib.Dec.{eqb, leb}
 use lib.ListN.{length, getD}
 use borrow.Author.Tests.{lt-ltb, le-ltb, leb-true, le-leb, eqb-true, eqb-false, ne-eqb}
-use Rattle.paging.specs.Lists.{both, implies, all}
-use Rattle.paging.specs.Rules.{nextOf, never, minDrops, drops, chosen}
+use Rattle.paging.specs.Lists.{both, implies, all, placeOf}
+use Rattle.paging.specs.Rules.{Sees, between, nextOf, never, minDrops, drops, chosen}
 use Rattle.paging.specs.Walk.{pages, outcome, next, outcomes}
-use Rattle.paging.specs.Plans.{placeOf}
 use Rattle.paging.specs.declared.Entry.{Entry}
 use Rattle.paging.specs.declared.Rule.the-variants.{Min}
 use Rattle.paging.specs.declared.Outcome.{Outcome}
 use Rattle.paging.proofs.Lists.{bool-cases, both-first, both-second, both-true, implied, implies-true, all-at, at-all, all-map, index-map, index-same, index-is, index-passes}
 use Rattle.paging.proofs.Choice.{next-le, never-next}
-use Rattle.paging.proofs.Held.{Apart}
+use Rattle.paging.specs.Meanings.{Apart}
 use Rattle.paging.proofs.Frames.{pages-length, pages-at, mem-pages, Ways, ways, pages-hit, pages-room, pages-full}
-use Rattle.minimum.specs.Farthest.{goesFirst, farthest, minOutcome, minNext, minOutcomes}
+use Rattle.minimum.specs.Devices.Farthest.{goesFirst, farthest, minOutcome, minNext, minOutcomes}
 
 -- ---- the walk
 
@@ -31,33 +30,33 @@ fits-same rest es e =
     (sym (all-map (λ (d : Entry). d .page .0) (λ (d : ℕ). leb (nextOf rest d) (nextOf rest (e .page .0))) es))
     (sym (all-map (λ (d : Entry). d .page .0) (λ (d : ℕ). implies (never rest d) (leb (e .page .0) d)) es))
 
-chosen-same : (rest : List ℕ) (es : List Entry) → chosen Min rest es ≡ farthest rest (pages es)
+chosen-same : (sees : Sees) (es : List Entry) → chosen Min sees es ≡ farthest (sees .rest) (pages es)
 unfolding chosen drops farthest
-chosen-same rest es =
-    index-same (minDrops rest es) (λ (e : Entry). goesFirst rest (pages es) (e .page .0)) (fits-same rest es) es
-    ∙ sym (index-map (λ (e : Entry). e .page .0) (goesFirst rest (pages es)) es)
+chosen-same sees es =
+    index-same (minDrops (sees .rest) es) (λ (e : Entry). goesFirst (sees .rest) (pages es) (e .page .0)) (fits-same (sees .rest) es) es
+    ∙ sym (index-map (λ (e : Entry). e .page .0) (goesFirst (sees .rest) (pages es)) es)
 
-outcome-same : (n p : ℕ) (rest : List ℕ) (es : List Entry) → outcome Min n p rest es ≡ minOutcome n p rest (pages es)
+outcome-same : (n p : ℕ) (sees : Sees) (es : List Entry) → outcome Min n p sees es ≡ minOutcome n p (sees .rest) (pages es)
 unfolding outcome minOutcome
-outcome-same n p rest es =
-    rw (mem-pages p es, pages-length es, ← chosen-same rest es, pages-at es (chosen Min rest es))
+outcome-same n p sees es =
+    rw (mem-pages p es, pages-length es, ← chosen-same sees es, pages-at es (chosen Min sees es))
 
-next-same : (n t p : ℕ) (rest : List ℕ) (es : List Entry) → pages (next Min n t p rest es) ≡ minNext n p rest (pages es)
+next-same : (n t p : ℕ) (sees : Sees) (es : List Entry) → pages (next Min n t p sees es) ≡ minNext n p (sees .rest) (pages es)
 unfolding minNext
-next-same n t p rest es = go (ways n p es)
+next-same n t p sees es = go (ways n p es)
   where
-    go : Ways n p es → pages (next Min n t p rest es) ≡ minNext n p rest (pages es)
-    go (inl q) = rw (pages-hit Min n t p rest es q, mem-pages p es, q)
-    go (inr (inl (q, h))) = rw (pages-room Min n t p rest es q h, mem-pages p es, q, pages-length es, lt-ltb (length es) n h)
-    go (inr (inr (q, h))) = rw (pages-full Min n t p rest es q h, mem-pages p es, q, pages-length es, le-ltb (length es) n h, chosen-same rest es)
+    go : Ways n p es → pages (next Min n t p sees es) ≡ minNext n p (sees .rest) (pages es)
+    go (inl q) = rw (pages-hit Min n t p sees es q, mem-pages p es, q)
+    go (inr (inl (q, h))) = rw (pages-room Min n t p sees es q h, mem-pages p es, q, pages-length es, lt-ltb (length es) n h)
+    go (inr (inr (q, h))) = rw (pages-full Min n t p sees es q h, mem-pages p es, q, pages-length es, le-ltb (length es) n h, chosen-same sees es)
 
 -- THE WALK OF RULE 3, over pages
-pub min-walks : (n : ℕ) (ps : List ℕ) (t : ℕ) (es : List Entry) → outcomes Min n t ps es ≡ minOutcomes n ps (pages es)
+pub min-walks : (n : ℕ) (past ps : List ℕ) (t : ℕ) (es : List Entry) → outcomes Min n t past ps es ≡ minOutcomes n ps (pages es)
 unfolding outcomes minOutcomes
-min-walks n [] t es = refl
-min-walks n (p ∷ ps) t es =
-    ap₂ (λ (o : Outcome) (os : List Outcome). o ∷ os) (outcome-same n p ps es)
-    (min-walks n ps (suc t) (next Min n t p ps es) ∙ ap (minOutcomes n ps) (next-same n t p ps es))
+min-walks n past [] t es = refl
+min-walks n past (p ∷ ps) t es =
+    ap₂ (λ (o : Outcome) (os : List Outcome). o ∷ os) (outcome-same n p (between past ps) es)
+    (min-walks n (past ++ (p ∷ [])) ps (suc t) (next Min n t p (between past ps) es) ∙ ap (minOutcomes n ps) (next-same n t p (between past ps) es))
 
 -- ---- how far off a page's next request is
 

@@ -13,14 +13,14 @@ use Rattle.paging.specs.declared.Rule.the-variants.{Min}
 use Rattle.paging.specs.declared.Outcome.{Outcome}
 use Rattle.paging.proofs.Writing.{outcomes-length, Reading, reading-starts, reading-steps, reading-ends}
 use Rattle.minimum.specs.declared.Kept.{Kept}
-use Rattle.minimum.specs.Farthest.{minOutcomes}
-use Rattle.minimum.specs.Turns.{pagesOf, noneKept, Fair, Stepped}
+use Rattle.minimum.specs.Devices.Farthest.{minOutcomes}
+use Rattle.minimum.specs.Devices.Turns.{keptPages, noneKept, Fair, Stepped}
 use Rattle.minimum.proofs.Farthest.{min-walks}
 
 pub record Running (n : ℕ) (trace words₀ words : List ℕ) (cur : Kept) (f i : ℕ) : Type 0 where
   pub passed : i ≤ length trace
   pub fair : Fair n trace i cur
-  pub reading : Reading (minOutcomes n trace []) (minOutcomes n (drop i trace) (pagesOf cur)) words₀ words f i
+  pub reading : Reading (minOutcomes n trace []) (minOutcomes n (drop i trace) (keptPages cur)) words₀ words f i
 
 module _ (n : ℕ) (trace words₀ : List ℕ) where
   pub running-starts : Running n trace words₀ words₀ noneKept 0 0
@@ -36,10 +36,10 @@ module _ (n : ℕ) (trace words₀ : List ℕ) where
       (o : Outcome) (after : Kept) (step : Stepped n trace i cur o after)
     where
       -- the outcomes left are the present one and the later ones
-      left : minOutcomes n (drop i trace) (pagesOf cur) ≡ o ∷ minOutcomes n (drop (i + 1) trace) (pagesOf after)
+      left : minOutcomes n (drop i trace) (keptPages cur) ≡ o ∷ minOutcomes n (drop (i + 1) trace) (keptPages after)
       unfolding minOutcomes
       left =
-          ap (λ (ps : List ℕ). minOutcomes n ps (pagesOf cur)) (drop-cons trace i 0 more ∙ ap (λ (k : ℕ). getD trace i 0 ∷ drop k trace) (sym (add-one i)))
+          ap (λ (ps : List ℕ). minOutcomes n ps (keptPages cur)) (drop-cons trace i 0 more ∙ ap (λ (k : ℕ). getD trace i 0 ∷ drop k trace) (sym (add-one i)))
           ∙ ap₂ (λ (x : Outcome) (held : List ℕ). x ∷ minOutcomes n (drop (i + 1) trace) held) (sym (step .told)) (sym (step .held))
 
       pub running-steps : Running n trace words₀ (set words i (wordOf o)) after (f + faultOf o) (i + 1)
@@ -60,8 +60,8 @@ module _ (n : ℕ) (trace words₀ : List ℕ) where
       → (f ≡ faults Min n trace) × (words ≡ laid (plan Min n trace) words₀)
   unfolding minOutcomes faults plan
   running-ends words cur f i r h =
-      let whole : minOutcomes n trace [] ≡ outcomes Min n 0 trace [] = sym (min-walks n trace 0 []) in
+      let whole : minOutcomes n trace [] ≡ outcomes Min n 0 [] trace [] = sym (min-walks n [] trace 0 []) in
       rw (← whole)
       (reading-ends (minOutcomes n trace []) words₀ words f i
-      (subst (λ (ps : List ℕ). Reading (minOutcomes n trace []) (minOutcomes n ps (pagesOf cur)) words₀ words f i) (drop-of-length-le trace h) (r .reading))
-      (let e : i ≡ length (minOutcomes n trace []) = omega (arith, r .passed, ap length whole, outcomes-length Min n 0 trace []) in e))
+      (subst (λ (ps : List ℕ). Reading (minOutcomes n trace []) (minOutcomes n ps (keptPages cur)) words₀ words f i) (drop-of-length-le trace h) (r .reading))
+      (let e : i ≡ length (minOutcomes n trace []) = omega (arith, r .passed, ap length whole, outcomes-length Min n 0 [] trace []) in e))

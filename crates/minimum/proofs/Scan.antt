@@ -10,7 +10,7 @@ use lib.Dec.{ltb}
 use borrow.Author.Tests.{ltb-true, ltb-false}
 use Rattle.paging.specs.Lists.{pick}
 use Rattle.paging.proofs.Lists.{false≢true, true≢false}
-use Rattle.minimum.specs.Turns.{goesBefore}
+use Rattle.minimum.specs.Devices.Turns.{goesBefore}
 
 -- frame j's turn is earlier than frame b's, or the same and its page number no lower
 abbrev pub Behind : (ℕ → ℕ) → (ℕ → ℕ) → ℕ → ℕ → Type 0

@@ -12,19 +12,21 @@ use lib.ListN.{length, getD, drop, set, length-set}
 use lib.Seq.{drop-cons, length-take-le, getD-take, getD-set-same, getD-set-other, take-set-lt, take-suc-set, set-getD}
 use borrow.Author.Tests.{lt-ltb, le-ltb}
 use Rattle.paging.specs.Rules.{nextOf}
-use Rattle.paging.specs.Plans.{mem, placeOf}
+use Rattle.paging.specs.Lists.{mem, placeOf}
+use Rattle.paging.specs.Calls.{frameLimit}
 use Rattle.paging.specs.declared.Moment.{Moment}
 use Rattle.paging.specs.declared.Outcome.the-variants.{Hit, Loaded, Dropped}
-use Rattle.paging.proofs.Held.{Apart, in-mem, place-holds, place-out, absent-in}
+use Rattle.paging.specs.Meanings.{Apart}
+use Rattle.paging.proofs.Held.{in-mem, place-holds, place-out, absent-in}
 use Rattle.minimum.specs.declared.Kept.{Kept}
-use Rattle.minimum.specs.Farthest.{farthest, minOutcome, minNext}
-use Rattle.minimum.specs.Turns.{turnOf, pagesOf, pageAt, turnAt, putAt, Fair, Stepped}
+use Rattle.minimum.specs.Devices.Farthest.{farthest, minOutcome, minNext}
+use Rattle.minimum.specs.Devices.Turns.{turnOf, keptPages, pageAt, turnAt, putAt, Fair, Stepped}
 use Rattle.minimum.proofs.Farthest.{next-nearer, farthest-is}
 use Rattle.minimum.proofs.Scan.{Behind}
 
 module _
     (n : ℕ) (trace : List ℕ) (t : ℕ) (k : Kept)
-    (fair : Fair n trace t k) (most : n ≤ 256) (inside : t < length trace)
+    (fair : Fair n trace t k) (most : n ≤ frameLimit) (inside : t < length trace)
   where
     abbrev pub p : ℕ
     p = getD trace t 0
@@ -37,13 +39,13 @@ module _
     unfolding rest
     now-and-later = drop-cons trace t 0 inside ∙ ap (λ (s : ℕ). getD trace t 0 ∷ drop s trace) (sym (add-one t))
 
-    held-length : length (pagesOf k) ≡ k .count
+    held-length : length (keptPages k) ≡ k .count
     held-length = length-take-le (k .count) (k .pages) (omega (arith, fair .few, fair .wide))
 
-    held-at : (i : ℕ) → i < k .count → getD (pagesOf k) i 0 ≡ pageAt k i
+    held-at : (i : ℕ) → i < k .count → getD (keptPages k) i 0 ≡ pageAt k i
     held-at i h = getD-take (k .count) (k .pages) i 0 h
 
-    held-apart : Apart (pagesOf k)
+    held-apart : Apart (keptPages k)
     held-apart i j h l e =
         let a : i < k .count = omega (arith, held-length) in
         let b : j < k .count = omega (arith, held-length) in
@@ -101,58 +103,58 @@ module _
     other-page : (f : ℕ) → f < k .count → pageAt k f ≡ p → (i : ℕ) → i < k .count → (i ≡ f → ⊥) → (i < k .count) × (pageAt k i ≡ p → ⊥)
     other-page f h e i l x = (l, λ y. x (fair .apart i f l h (y ∙ sym e)))
 
-    absent-page : mem p (pagesOf k) ≡ false → (i : ℕ) → i < k .count → pageAt k i ≡ p → ⊥
-    absent-page m i h e = absent-in p (pagesOf k) m (i, omega (arith, held-length), held-at i h ∙ e)
+    absent-page : mem p (keptPages k) ≡ false → (i : ℕ) → i < k .count → pageAt k i ≡ p → ⊥
+    absent-page m i h e = absent-in p (keptPages k) m (i, omega (arith, held-length), held-at i h ∙ e)
 
-    pub served-hit : placeOf p (pagesOf k) < k .count → Stepped n trace t k Hit (putAt k (placeOf p (pagesOf k)) p (turnOf trace (t + 1) p) (k .count))
+    pub served-hit : placeOf p (keptPages k) < k .count → Stepped n trace t k Hit (putAt k (placeOf p (keptPages k)) p (turnOf trace (t + 1) p) (k .count))
     unfolding rest minOutcome minNext turn
     served-hit h =
-        let f : ℕ = placeOf p (pagesOf k) in
-        let l : f < length (pagesOf k) = omega (arith, held-length) in
-        let e : getD (pagesOf k) f 0 ≡ p = place-holds p (pagesOf k) l in
-        let m : mem p (pagesOf k) ≡ true = in-mem p (pagesOf k) (f, l, e) in
+        let f : ℕ = placeOf p (keptPages k) in
+        let l : f < length (keptPages k) = omega (arith, held-length) in
+        let e : getD (keptPages k) f 0 ≡ p = place-holds p (keptPages k) l in
+        let m : mem p (keptPages k) ≡ true = in-mem p (keptPages k) (f, l, e) in
         record {
           told = rw m;
-          held = rw m (take-set-lt (k .count) (k .pages) f p h ∙ ap (set (pagesOf k) f) (sym e) ∙ set-getD (pagesOf k) f 0);
+          held = rw m (take-set-lt (k .count) (k .pages) f p h ∙ ap (set (keptPages k) f) (sym e) ∙ set-getD (keptPages k) f 0);
           fair = fair-put f (k .count) h (fair .few) (other-page f h (sym (held-at f h) ∙ e));
         }
 
-    pub served-room : k .count ≤ placeOf p (pagesOf k) → k .count < n → Stepped n trace t k Loaded (putAt k (k .count) p (turnOf trace (t + 1) p) (k .count + 1))
+    pub served-room : k .count ≤ placeOf p (keptPages k) → k .count < n → Stepped n trace t k Loaded (putAt k (k .count) p (turnOf trace (t + 1) p) (k .count + 1))
     unfolding rest minOutcome minNext turn
     served-room h r =
-        let m : mem p (pagesOf k) ≡ false = place-out p (pagesOf k) (omega (arith, held-length)) in
-        let l : length (pagesOf k) < n = omega (arith, held-length) in
+        let m : mem p (keptPages k) ≡ false = place-out p (keptPages k) (omega (arith, held-length)) in
+        let l : length (keptPages k) < n = omega (arith, held-length) in
         record {
-          told = rw (m, lt-ltb (length (pagesOf k)) n l);
-          held = rw (m, lt-ltb (length (pagesOf k)) n l, add-one (k .count)) (take-suc-set (k .pages) (k .count) p (omega (arith, fair .wide)));
+          told = rw (m, lt-ltb (length (keptPages k)) n l);
+          held = rw (m, lt-ltb (length (keptPages k)) n l, add-one (k .count)) (take-suc-set (k .pages) (k .count) p (omega (arith, fair .wide)));
           fair = fair-put (k .count) (k .count + 1) (omega arith) (omega arith) (λ i a x. (omega arith, absent-page m i (omega arith)));
         }
 
-    pub served-full : k .count ≤ placeOf p (pagesOf k) → n ≤ k .count → (far : ℕ) → far < k .count
+    pub served-full : k .count ≤ placeOf p (keptPages k) → n ≤ k .count → (far : ℕ) → far < k .count
         → ((j : ℕ) → j < k .count → Behind (turnAt k) (pageAt k) j far)
         → Stepped n trace t k (Dropped (record { 0 = pageAt k far })) (putAt k far p (turnOf trace (t + 1) p) (k .count))
     unfolding rest minOutcome minNext turn
     served-full h r far g behind =
-        let m : mem p (pagesOf k) ≡ false = place-out p (pagesOf k) (omega (arith, held-length)) in
-        let l : n ≤ length (pagesOf k) = omega (arith, held-length) in
-        let f : farthest rest (pagesOf k) ≡ far =
-        farthest-is rest (pagesOf k) held-apart (t + 1) (turnAt k) turns far (omega (arith, held-length)) behind-held in
+        let m : mem p (keptPages k) ≡ false = place-out p (keptPages k) (omega (arith, held-length)) in
+        let l : n ≤ length (keptPages k) = omega (arith, held-length) in
+        let f : farthest rest (keptPages k) ≡ far =
+        farthest-is rest (keptPages k) held-apart (t + 1) (turnAt k) turns far (omega (arith, held-length)) behind-held in
         record {
-          told = rw (m, le-ltb (length (pagesOf k)) n l, f, held-at far g);
-          held = rw (m, le-ltb (length (pagesOf k)) n l, f) (take-set-lt (k .count) (k .pages) far p g);
+          told = rw (m, le-ltb (length (keptPages k)) n l, f, held-at far g);
+          held = rw (m, le-ltb (length (keptPages k)) n l, f) (take-set-lt (k .count) (k .pages) far p g);
           fair = fair-put far (k .count) g (fair .few) (λ i a x. (a, absent-page m i a));
         }
       where
         absent-now : (j : ℕ) → j < k .count → pageAt k j ≡ p → ⊥
-        absent-now = absent-page (place-out p (pagesOf k) (omega (arith, held-length)))
+        absent-now = absent-page (place-out p (keptPages k) (omega (arith, held-length)))
 
-        turns : (j : ℕ) → j < length (pagesOf k) → turnAt k j ≡ (t + 1) + nextOf rest (getD (pagesOf k) j 0)
+        turns : (j : ℕ) → j < length (keptPages k) → turnAt k j ≡ (t + 1) + nextOf rest (getD (keptPages k) j 0)
         turns j a =
             let b : j < k .count = omega (arith, held-length) in
             fair .in-turn j b ∙ turn-stays (pageAt k j) (λ e. absent-now j b (sym e)) ∙ ap (turnOf trace (t + 1)) (sym (held-at j b))
 
-        behind-held : (j : ℕ) → j < length (pagesOf k)
-            → (turnAt k j < turnAt k far) ⊎ ((turnAt k j ≡ turnAt k far) × (getD (pagesOf k) far 0 ≤ getD (pagesOf k) j 0))
+        behind-held : (j : ℕ) → j < length (keptPages k)
+            → (turnAt k j < turnAt k far) ⊎ ((turnAt k j ≡ turnAt k far) × (getD (keptPages k) far 0 ≤ getD (keptPages k) j 0))
         behind-held j a =
             let b : j < k .count = omega (arith, held-length) in
             ⊎-elim inl (λ w. inr (w .0, omega (arith, held-at j b, held-at far g))) (behind j b)

@@ -1,3 +1,2 @@
--- What the contracts of MIN over a whole trace cite.
-pub mod Farthest
-pub mod Turns
+-- What the contracts of MIN over a whole trace cite beside document 01's definitions: devices of the code alone.
+pub mod Devices

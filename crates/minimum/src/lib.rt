@@ -4,10 +4,10 @@ ghost use mathlib.Core.Logic.{_⊎_};
 ghost use Prim.Native.Nat.{ℕ, _≤_, _<_};
 ghost use lib.ListN.{length};
 ghost use Rattle.paging.specs.Walk.{faults, plan};
-ghost use Rattle.paging.specs.Calls.{traceTests};
+ghost use Rattle.paging.specs.Calls.{frameLimit, requestLimit, traceTests};
 ghost use Rattle.paging.specs.Services.{answered, laid, written};
 ghost use Rattle.paging.specs.declared.Rule.the-variants.{Min};
-ghost use Rattle.minimum.specs.Turns.{turnOf, goesBefore, pageAt, turnAt, noneKept, putAt, Fair, Stepped};
+ghost use Rattle.minimum.specs.Devices.Turns.{turnOf, goesBefore, pageAt, turnAt, noneKept, putAt, Fair, Stepped};
 use paging::Answer;
 use paging::Frame;
 use paging::Gate;
@@ -17,8 +17,8 @@ use paging::Page;
 
 // The held pages, their turns, and how many there are. The pages are plain words, since they are searched as a slice.
 struct Kept {
-    pub pages: [u32; 256],
-    pub turns: [Moment; 256],
+    pub pages: [u32; calls::FRAMES as usize],
+    pub turns: [Moment; calls::FRAMES as usize],
     pub count: u32,
 }
 
@@ -30,7 +30,7 @@ struct Served {
 
 // The moment of a page's next request from a moment on; the trace's length, if it never comes.
 fn next_request(trace: &[u32], from: Moment, page: Page) -> Moment
-    requires { ⌜ (from .0 ≤ length (now trace)) × (length (now trace) ≤ 8000) ⌝ }
+    requires { ⌜ (from .0 ≤ length (now trace)) × (length (now trace) ≤ requestLimit) ⌝ }
     ensures { λ r. ⌜ (r .0 ≡ turnOf (now (trace .entry)) (from .0) (page .0)) × (r .0 ≤ length (now (trace .entry))) ⌝ }
 {
     let start = from.0 as usize;
@@ -57,15 +57,15 @@ impl Kept {
         ensures { λ r. ⌜ r ≡ noneKept ⌝ }
     {
         Kept {
-            pages: [0; 256],
-            turns: [Moment(0); 256],
+            pages: [0; calls::FRAMES as usize],
+            turns: [Moment(0); calls::FRAMES as usize],
             count: 0,
         }
     }
 
     // The frame whose turn is latest; of several with the same turn, that of the lowest page number.
     fn farthest(self) -> Frame
-        requires { ⌜ (0 < self .count) × (self .count ≤ 256) ⌝ }
+        requires { ⌜ (0 < self .count) × (self .count ≤ frameLimit) ⌝ }
         ensures { λ r. ⌜ (r .0 < self .count) × ((j : ℕ) → j < self .count → (turnAt self j < turnAt self (r .0)) ⊎ ((turnAt self j ≡ turnAt self (r .0)) × (pageAt self (r .0) ≤ pageAt self j))) ⌝ }
     {
         let count = self.count as usize;
@@ -87,7 +87,7 @@ impl Kept {
 
     // A page and its turn written into a frame.
     fn put(self, at: Frame, page: Page, turn: Moment, count: u32) -> Kept
-        requires { ⌜ at .0 < 256 ⌝ }
+        requires { ⌜ at .0 < frameLimit ⌝ }
         ensures { λ r. ⌜ r ≡ putAt self (at .0) (page .0) (turn .0) count ⌝ }
     {
         let i = at.0 as usize;
@@ -100,7 +100,7 @@ impl Kept {
 
     // The request of moment t: a hit, a load with room, or a load in place of the page whose turn is latest.
     fn served(self, n: u32, trace: &[u32], t: Moment) -> Served
-        requires { ⌜ (Fair n (now trace) (t .0) self) × (1 ≤ n) × (n ≤ 256) × (t .0 < length (now trace)) × (length (now trace) ≤ 8000) ⌝ }
+        requires { ⌜ (Fair n (now trace) (t .0) self) × (1 ≤ n) × (n ≤ frameLimit) × (t .0 < length (now trace)) × (length (now trace) ≤ requestLimit) ⌝ }
         ensures { λ r. ⌜ Stepped n (now (trace .entry)) (t .0) self (r .outcome) (r .next) ⌝ }
     {
         let page = Page(trace[t.0 as usize]);
@@ -130,7 +130,7 @@ impl Kept {
 
 // Walks a trace from empty: its faults, and as much of its plan as there are lent words for. With no words it only counts.
 fn walked(n: u32, trace: &[u32], words: &mut [u32]) -> u32
-    requires { ⌜ (1 ≤ n) × (n ≤ 256) × (length (now trace) ≤ 8000) ⌝ }
+    requires { ⌜ (1 ≤ n) × (n ≤ frameLimit) × (length (now trace) ≤ requestLimit) ⌝ }
     ensures { λ r. ⌜ (r ≡ faults Min n (now (trace .entry))) × (now (words .exit) ≡ laid (plan Min n (now (trace .entry))) (now (words .entry))) ⌝ }
 {
     let mut cur = Kept::none();

@@ -10,7 +10,7 @@ use lib.Dec.{eqb, leb}
 use lib.ListN.{length}
 use borrow.Author.Tests.{le-leb, eqb-true}
 use Rattle.paging.specs.Lists.{pick, both, implies, any, all}
-use Rattle.paging.specs.Rules.{nextOf, never, once, lruDrops, fifoDrops, minDrops, lru2Drops, drops, chosen}
+use Rattle.paging.specs.Rules.{Sees, nextOf, never, once, lruDrops, fifoDrops, minDrops, lru2Drops, drops, chosen}
 use Rattle.paging.specs.Walk.{zeroEntry, entryAt}
 use Rattle.paging.specs.declared.Entry.{Entry}
 use Rattle.paging.specs.declared.Rule.{Rule}
@@ -96,20 +96,20 @@ lru2-some es h = go (any once es) refl
     go true q = least-of once (λ (e : Entry). e .last .0) es q
     go false q = least-all (λ (e : Entry). e .earlier .0) es h
 
-pub some-drops : (rule : Rule) (rest : List ℕ) (es : List Entry) → 0 < length es → Some (drops rule rest es) es
+pub some-drops : (rule : Rule) (sees : Sees) (es : List Entry) → 0 < length es → Some (drops rule sees es) es
 unfolding drops lruDrops fifoDrops
-some-drops Lru rest es h = least-all (λ (e : Entry). e .last .0) es h
-some-drops Fifo rest es h = least-all (λ (e : Entry). e .loaded .0) es h
-some-drops Min rest es h = min-some rest es h
-some-drops Lru2 rest es h = lru2-some es h
+some-drops Lru sees es h = least-all (λ (e : Entry). e .last .0) es h
+some-drops Fifo sees es h = least-all (λ (e : Entry). e .loaded .0) es h
+some-drops Min sees es h = min-some (sees .rest) es h
+some-drops Lru2 sees es h = lru2-some es h
 
 -- ---- the frame chosen
 
-pub chosen-below : (rule : Rule) (rest : List ℕ) (es : List Entry) → 0 < length es → chosen rule rest es < length es
+pub chosen-below : (rule : Rule) (sees : Sees) (es : List Entry) → 0 < length es → chosen rule sees es < length es
 unfolding chosen
-chosen-below rule rest es h =
-    let (i, k, e) = some-drops rule rest es h in any-index (drops rule rest es) zeroEntry es (at-any (drops rule rest es) zeroEntry es i k e)
+chosen-below rule sees es h =
+    let (i, k, e) = some-drops rule sees es h in any-index (drops rule sees es) zeroEntry es (at-any (drops rule sees es) zeroEntry es i k e)
 
-pub chosen-drops : (rule : Rule) (rest : List ℕ) (es : List Entry) → 0 < length es → drops rule rest es (entryAt es (chosen rule rest es)) ≡ true
+pub chosen-drops : (rule : Rule) (sees : Sees) (es : List Entry) → 0 < length es → drops rule sees es (entryAt es (chosen rule sees es)) ≡ true
 unfolding chosen
-chosen-drops rule rest es h = index-passes (drops rule rest es) zeroEntry es (chosen-below rule rest es h)
+chosen-drops rule sees es h = index-passes (drops rule sees es) zeroEntry es (chosen-below rule sees es h)

@@ -1,6 +1,6 @@
 -- What each rule drops, in the words of document 01's table: requests of the trace, and no fields.
 --
--- In order: the words; each row of the table; that one held page at most fits a row; that the page dropped fits its rule's; the two together.
+-- The words and the rows are in specs/Meanings.antt. In order: that one held page at most fits a row; that the page dropped fits its rule's; the two together.
 -- Assumes nothing.
 use mathlib.Core.Path.{_≡_, refl, sym, ap, _∙_, subst}
 use mathlib.Core.Logic.{_⊎_, inl, inr, ⊎-elim}
@@ -14,8 +14,9 @@ use lib.ListN.{length, getD, drop, length-drop}
 use lib.Seq.{getD-drop}
 use borrow.Author.Tests.{leb-true, eqb-true, eqb-false, eq-eqb}
 use Rattle.paging.specs.Lists.{pick, both, implies, any, all}
-use Rattle.paging.specs.Rules.{mark, nextOf, never, once, lruDrops, fifoDrops, minDrops, lru2Drops, drops, chosen}
-use Rattle.paging.specs.Walk.{zeroEntry, entryAt, pages, outcomes, entriesAt}
+use Rattle.paging.specs.Rules.{mark, Sees, nextOf, never, once, lruDrops, fifoDrops, minDrops, lru2Drops, drops, chosen}
+use Rattle.paging.specs.Walk.{zeroEntry, entryAt, pages, outcomes, seesAt, entriesAt}
+use Rattle.paging.specs.Meanings.{Asked, Missed, Latest, Means, Earliest, Held, LastAsked, SecondAsked, LastLoaded, OnlyOnce, NextAsked, NeverAsked, LruRow, FifoRow, MinRow, Lru2Row, RuleRow}
 use Rattle.paging.specs.declared.Page.{Page}
 use Rattle.paging.specs.declared.Entry.{Entry}
 use Rattle.paging.specs.declared.Rule.{Rule}
@@ -23,80 +24,11 @@ use Rattle.paging.specs.declared.Rule.the-variants.{Lru, Fifo, Min, Lru2
 use Rattle.paging.specs.declared.Outcome.the-variants.{Hit, Dropped}
 use Rattle.paging.proofs.Lists.{true≢false, bool-cases, both-first, both-second, implied, all-at, none-at, index-passes, index-first}
 use Rattle.paging.proofs.Choice.{next-le, never-next, chosen-below, chosen-drops}
-use Rattle.paging.proofs.Held.{In}
 use Rattle.paging.proofs.Frames.{pages-length, pages-at, dropped-full, outcome-at}
-use Rattle.paging.proofs.Moments.{Asked, Missed, Latest, latest-one, latest-le, Means, fields-mean}
-
--- ---- words
-
--- page q's moment is earlier than that of each other page of a group
-abbrev pub Earliest : (ℕ → ℕ → Type 0) → (ℕ → Type 0) → ℕ → Type 0
-Earliest moment group q =
-    (s : ℕ) × moment q s × ((r : ℕ) → group r → (r ≡ q → ⊥) → (u : ℕ) × moment r u × (s < u))
-
--- just before moment t, for a page r:
-module _ (rule : Rule) (n : ℕ) (trace : List ℕ) (t : ℕ) where
-  -- it is held
-  abbrev pub Held : ℕ → Type 0
-  Held r = In r (pages (entriesAt rule n trace t))
-
-  -- its last request is at s
-  abbrev pub LastAsked : ℕ → ℕ → Type 0
-  LastAsked r s = Latest (Asked trace r) t s
-
-  -- its second to last request is at s
-  abbrev pub SecondAsked : ℕ → ℕ → Type 0
-  SecondAsked r s = (l : ℕ) × LastAsked r l × Latest (Asked trace r) l s
-
-  -- it was last loaded at s
-  abbrev pub LastLoaded : ℕ → ℕ → Type 0
-  LastLoaded r s = Latest (Missed rule n trace r) t s
-
-  -- it has been requested only once since it was last loaded: the request that loaded it
-  abbrev pub OnlyOnce : ℕ → Type 0
-  OnlyOnce r = (l : ℕ) × LastLoaded r l × ((k : ℕ) → l < k → k < t → Asked trace r k → ⊥)
-
-  -- its next request is at s
-  abbrev pub NextAsked : ℕ → ℕ → Type 0
-  NextAsked r s = Asked trace r s × (t < s) × ((k : ℕ) → t < k → k < s → Asked trace r k → ⊥)
-
-  -- it is never requested again
-  abbrev pub NeverAsked : ℕ → Type 0
-  NeverAsked r = (k : ℕ) → t < k → Asked trace r k → ⊥
+use Rattle.paging.proofs.Moments.{latest-one, latest-le, fields-mean}
 
 le-ne : {a b : ℕ} → a ≤ b → (a ≡ b → ⊥) → a < b
 le-ne h e = omega arith
-
--- ---- the rows of the table
-
-module _ (rule : Rule) (n : ℕ) (trace : List ℕ) (t : ℕ) where
-  -- the one whose last request is earliest
-  abbrev pub LruRow : ℕ → Type 0
-  LruRow q = Earliest (LastAsked rule n trace t) (Held rule n trace t) q
-
-  -- the one loaded earliest
-  abbrev pub FifoRow : ℕ → Type 0
-  FifoRow q = Earliest (LastLoaded rule n trace t) (Held rule n trace t) q
-
-  -- the one whose next request is latest; "never again" is later than every moment; among several never requested again, the lowest page number
-  abbrev pub MinRow : ℕ → Type 0
-  MinRow q =
-      (NeverAsked rule n trace t q × ((r : ℕ) → Held rule n trace t r → NeverAsked rule n trace t r → (r ≡ q → ⊥) → q < r))
-      ⊎ ((s : ℕ) × NextAsked rule n trace t q s
-      × ((r : ℕ) → Held rule n trace t r → (r ≡ q → ⊥) → (u : ℕ) × NextAsked rule n trace t r u × (u < s)))
-
-  -- if some held pages have been requested only once since they were last loaded, the one of these whose last request is earliest;
-  -- otherwise the one whose second to last request is earliest
-  abbrev pub Lru2Row : ℕ → Type 0
-  Lru2Row q =
-      (OnlyOnce rule n trace t q × Earliest (LastAsked rule n trace t) (λ (r : ℕ). Held rule n trace t r × OnlyOnce rule n trace t r) q)
-      ⊎ (((r : ℕ) → Held rule n trace t r → OnlyOnce rule n trace t r → ⊥) × Earliest (SecondAsked rule n trace t) (Held rule n trace t) q)
-
-abbrev pub Row : Rule → ℕ → List ℕ → ℕ → ℕ → Type 0
-Row Lru n trace t = LruRow Lru n trace t
-Row Fifo n trace t = FifoRow Fifo n trace t
-Row Min n trace t = MinRow Min n trace t
-Row Lru2 n trace t = Lru2Row Lru2 n trace t
 
 -- ---- one held page at most fits a row
 
@@ -145,7 +77,7 @@ module _ (rule : Rule) (n : ℕ) (trace : List ℕ) (t : ℕ) where
           omega (arith, next-one r u v b ar, next-one q s w aq d)
 
 pub row-one : (rule : Rule) (n : ℕ) (trace : List ℕ) (t q r : ℕ) → Held rule n trace t q → Held rule n trace t r
-    → Row rule n trace t q → Row rule n trace t r → r ≡ q
+    → RuleRow rule n trace t q → RuleRow rule n trace t r → r ≡ q
 row-one Lru n trace t q r hq hr = earliest-one _ _ (asked-one Lru n trace t) q r hq hr
 row-one Fifo n trace t q r hq hr = earliest-one _ _ (loaded-one Fifo n trace t) q r hq hr
 row-one Min n trace t q r hq hr = min-one Min n trace t q r hq hr
@@ -352,8 +284,8 @@ module _ (rule : Rule) (n : ℕ) (trace : List ℕ) (t : ℕ) (inside : t ≤ le
 
 row-fits : (rule : Rule) (n : ℕ) (trace : List ℕ) (t : ℕ) → t ≤ length trace → length trace ≤ mark
     → (i : ℕ) → i < length (entriesAt rule n trace t)
-    → drops rule (drop (suc t) trace) (entriesAt rule n trace t) (entryAt (entriesAt rule n trace t) i) ≡ true
-    → Row rule n trace t (entryAt (entriesAt rule n trace t) i .page .0)
+    → drops rule (seesAt trace t) (entriesAt rule n trace t) (entryAt (entriesAt rule n trace t) i) ≡ true
+    → RuleRow rule n trace t (entryAt (entriesAt rule n trace t) i .page .0)
 unfolding drops es rest
 row-fits Lru n trace t inside short = lru-fits Lru n trace t inside
 row-fits Fifo n trace t inside short = fifo-fits Fifo n trace t inside
@@ -362,16 +294,16 @@ row-fits Lru2 n trace t inside short = lru2-fits Lru2 n trace t inside short
 
 -- the page that the walk drops at moment t is held and fits its rule's row, and no other held page does
 pub what-each-rule-drops : (rule : Rule) (n : ℕ) (trace : List ℕ) (t : ℕ) → 1 ≤ n → length trace ≤ mark → t < length trace
-    → (q : Page) → getD (outcomes rule n 0 trace []) t Hit ≡ Dropped q
-    → Held rule n trace t (q .0) × Row rule n trace t (q .0) × ((r : ℕ) → Held rule n trace t r → Row rule n trace t r → r ≡ q .0)
+    → (q : Page) → getD (outcomes rule n 0 [] trace []) t Hit ≡ Dropped q
+    → Held rule n trace t (q .0) × RuleRow rule n trace t (q .0) × ((r : ℕ) → Held rule n trace t r → RuleRow rule n trace t r → r ≡ q .0)
 what-each-rule-drops rule n trace t some short inside q e =
     let held : List Entry = entriesAt rule n trace t in
-    let come : List ℕ = drop (suc t) trace in
-    let f : ℕ = chosen rule come held in
-    let (absent, full, is) = dropped-full rule n t (getD trace t 0) come held q (sym (outcome-at rule n trace t inside Hit) ∙ e) in
-    let k : f < length held = chosen-below rule come held (omega arith) in
+    let sees : Sees = seesAt trace t in
+    let f : ℕ = chosen rule sees held in
+    let (absent, full, is) = dropped-full rule n t (getD trace t 0) sees held q (sym (outcome-at rule n trace t inside Hit) ∙ e) in
+    let k : f < length held = chosen-below rule sees held (omega arith) in
     let there : Held rule n trace t (q .0) = (f, omega (arith, pages-length held), pages-at held f ∙ ap (λ (p : Page). p .0) (sym is)) in
-    let fits : Row rule n trace t (q .0) =
-    subst (λ (p : Page). Row rule n trace t (p .0)) (sym is)
-    (row-fits rule n trace t (omega arith) short f k (chosen-drops rule come held (omega arith))) in
+    let fits : RuleRow rule n trace t (q .0) =
+    subst (λ (p : Page). RuleRow rule n trace t (p .0)) (sym is)
+    (row-fits rule n trace t (omega arith) short f k (chosen-drops rule sees held (omega arith))) in
     (there, fits, λ r g w. row-one rule n trace t (q .0) r there g fits w)

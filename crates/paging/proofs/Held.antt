@@ -11,17 +11,9 @@ use lib.Dec.{eqb}
 use lib.ListN.{length, getD, set, length-set}
 use lib.Seq.{getD-set-same, getD-set-other, getD-append-seam}
 use borrow.Author.Tests.{eqb-true, eq-eqb}
-use Rattle.paging.specs.Lists.{indexOf}
-use Rattle.paging.specs.Plans.{mem, placeOf}
+use Rattle.paging.specs.Lists.{indexOf, mem, placeOf}
+use Rattle.paging.specs.Meanings.{In, Apart}
 use Rattle.paging.proofs.Lists.{false≢true, bool-cases, any-index, index-passes, index-is, at-any, snoc-cases, set-cases, length-snoc, getD-snoc-old}
-
--- page p stands in some frame of the list
-abbrev pub In : ℕ → List ℕ → Type 0
-In p held = (i : ℕ) × (i < length held) × (getD held i 0 ≡ p)
-
--- no page stands in two frames
-abbrev pub Apart : List ℕ → Type 0
-Apart held = (i j : ℕ) → i < length held → j < length held → getD held i 0 ≡ getD held j 0 → i ≡ j
 
 -- ---- the test and the frame
 

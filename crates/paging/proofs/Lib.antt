@@ -3,6 +3,7 @@ pub mod Lists
 pub mod Choice
 pub mod Held
 pub mod Frames
+pub mod Sight
 pub mod Moments
 pub mod Drops
 pub mod Own

@@ -1,4 +1,4 @@
--- Moments of a trace, and what the fields of an entry mean.
+-- The fields of an entry mean what specs/Meanings.antt says (`Means`).
 --
 -- "Along a walk from empty, of every held page: `last` is the moment of its latest request, `loaded` that of its latest fault, `earlier` its latest
 -- request before `last` since it was loaded, or the mark." For any rule.
@@ -10,29 +10,16 @@ use mathlib.Core.List.{List}
 use Prim.Native.Nat.{ℕ, zero, suc, _≤_, _<_}
 use native.Mathlib.Omega.{arith}
 use native.Mathlib.Decide.{decLe, decLt, ℕ-discrete}
-use lib.ListN.{length, getD, drop}
+use lib.ListN.{length, getD}
 use Rattle.paging.specs.Rules.{mark}
-use Rattle.paging.specs.Walk.{holds, entryAt, loadedAt, renewed, next, entriesAt}
+use Rattle.paging.specs.Walk.{holds, entryAt, loadedAt, renewed, next, seesAt, entriesAt}
+use Rattle.paging.specs.Meanings.{Asked, Missed, Latest, Means}
 use Rattle.paging.specs.declared.Entry.{Entry}
 use Rattle.paging.specs.declared.Rule.{Rule}
 use Rattle.paging.proofs.Lists.{true≢false}
 use Rattle.paging.proofs.Frames.{Became, next-entry, held-differ}
 
--- ---- words
-
--- page p is requested at moment s
-abbrev pub Asked : List ℕ → ℕ → ℕ → Type 0
-Asked trace p s = (s < length trace) × (getD trace s 0 ≡ p)
-
--- the request of moment s is for page p and finds it absent
-abbrev pub Missed : Rule → ℕ → List ℕ → ℕ → ℕ → Type 0
-Missed rule n trace p s = (Asked trace p s) × (holds p (entriesAt rule n trace s) ≡ false)
-
--- s is the latest moment before t of which P is true
-pub record Latest (P : ℕ → Type 0) (t s : ℕ) : Type 0 where
-  pub true-then : P s
-  pub before : s < t
-  pub not-since : (k : ℕ) → s < k → k < t → P k → ⊥
+-- ---- the latest moment
 
 module _ (P : ℕ → Type 0) where
   -- there is only one such moment
@@ -59,14 +46,6 @@ module _ (P : ℕ → Type 0) where
   latest-le t r s p h a = elim (decLe r s) [ yes k ↦ k | no k ↦ absurd (a .not-since r (omega arith) h p) ]
 
 -- ---- what the fields mean
-
--- of an entry e held just before moment t
-pub record Means (rule : Rule) (n : ℕ) (trace : List ℕ) (t : ℕ) (e : Entry) : Type 0 where
-  pub last-asked : Latest (Asked trace (e .page .0)) t (e .last .0)
-  pub loaded-missed : Latest (Missed rule n trace (e .page .0)) t (e .loaded .0)
-  pub earlier-asked :
-      ((e .earlier .0 ≡ mark) × ((k : ℕ) → e .loaded .0 ≤ k → k < e .last .0 → Asked trace (e .page .0) k → ⊥))
-      ⊎ ((e .loaded .0 ≤ e .earlier .0) × Latest (Asked trace (e .page .0)) (e .last .0) (e .earlier .0))
 
 module _ (rule : Rule) (n : ℕ) (trace : List ℕ) (t : ℕ) (inside : t < length trace) where
   -- the page just loaded
@@ -109,10 +88,10 @@ pub fields-mean : (rule : Rule) (n : ℕ) (trace : List ℕ) (t : ℕ) → t ≤
 unfolding entriesAt
 fields-mean rule n trace zero h i k = absurd (omega arith)
 fields-mean rule n trace (suc t) h i k =
-    go (fields-mean rule n trace t (omega arith)) (next-entry rule n t (getD trace t 0) (drop (suc t) trace) (entriesAt rule n trace t) (held-differ rule n trace t) i k)
+    go (fields-mean rule n trace t (omega arith)) (next-entry rule n t (getD trace t 0) (seesAt trace t) (entriesAt rule n trace t) (held-differ rule n trace t) i k)
   where
     new : Entry
-    new = entryAt (next rule n t (getD trace t 0) (drop (suc t) trace) (entriesAt rule n trace t)) i
+    new = entryAt (next rule n t (getD trace t 0) (seesAt trace t) (entriesAt rule n trace t)) i
 
     go : ((j : ℕ) → j < length (entriesAt rule n trace t) → Means rule n trace t (entryAt (entriesAt rule n trace t) j))
         → Became t (getD trace t 0) (entriesAt rule n trace t) i new → Means rule n trace (suc t) new

@@ -1,7 +1,7 @@
 -- A plan is accepted exactly when each of its entries keeps the plan rule, entry by entry in document 01's three sentences,
 -- and then its count is the number of requests that found their page absent; otherwise the answer names the first entry that does not.
 --
--- In order: the three sentences; the check against them; the laws; what is held after a request.
+-- The sentences are `Keeps` of specs/Meanings.antt. In order: one entry; the check against them; the laws; what is held after a request.
 -- Assumes nothing.
 use mathlib.Core.Path.{_≡_, refl, sym, ap, _∙_, subst}
 use mathlib.Core.Logic.{_⊎_, inl, inr, _↔_}
@@ -15,25 +15,18 @@ use lib.ListN.{length, getD, set, drop, drop-of-length-le}
 use lib.Seq.{drop-cons}
 use borrow.Author.Tests.{eqb-true, eqb-false, lt-ltb, le-ltb, ltb-true, ltb-false}
 use Rattle.paging.specs.Rules.{mark}
-use Rattle.paging.specs.Plans.{mem, placeOf, judged, after, absent, through, checkFrom, check, heldAt}
+use Rattle.paging.specs.Lists.{mem, placeOf}
+use Rattle.paging.specs.Plans.{judged, after, absent, through, checkFrom, check, heldAt}
+use Rattle.paging.specs.Meanings.{In, Apart, Keeps, KeepsAt, absences}
 use Rattle.paging.specs.declared.Gate.{Gate}
 use Rattle.paging.specs.declared.Gate.the-variants.{Open, No}
 use Rattle.paging.specs.declared.Answer.{Answer}
 use Rattle.paging.specs.declared.Answer.the-variants.{Faults, Refused}
 use Rattle.paging.specs.declared.Refusal.{Refusal}
 use Rattle.paging.specs.declared.Refusal.the-variants.{PlanBroken}
-use Rattle.paging.proofs.Held.{In, Apart, in-mem, mem-in, not-in, absent-in, mem-place, apart-nil, apart-snoc, apart-set, snoc-in, set-in}
+use Rattle.paging.proofs.Held.{in-mem, mem-in, not-in, absent-in, mem-place, apart-nil, apart-snoc, apart-set, snoc-in, set-in}
 
--- ---- the three sentences
-
--- the entry w for a request of page p, with these pages held in m frames
-pub record Keeps (m : ℕ) (held : List ℕ) (p w : ℕ) : Type 0 where
-  -- if the page is held, the entry must be the mark
-  pub on-a-hit : In p held → w ≡ mark
-  -- if it isn't held and there is room, the entry must be the mark
-  pub with-room : (In p held → ⊥) → length held < m → w ≡ mark
-  -- if it isn't held and the cache is full, the entry must be a page held before this request
-  pub when-full : (In p held → ⊥) → m ≤ length held → In w held
+-- ---- one entry
 
 module _ (m t : ℕ) (held : List ℕ) (p w : ℕ) where
   -- an entry is passed or told as broken, as it keeps the three sentences or not
@@ -66,20 +59,11 @@ module _ (m t : ℕ) (held : List ℕ) (p w : ℕ) where
 -- ---- the check, from a moment on
 
 module _ (m : ℕ) (trace words : List ℕ) where
-  -- the entry of moment t keeps the plan rule
-  abbrev pub KeepsAt : ℕ → Type 0
-  KeepsAt t = Keeps m (heldAt m trace words t) (getD trace t 0) (getD words t 0)
-
-  -- how many of the k requests from moment t on find their page absent
-  unfoldable pub absences : ℕ → ℕ → ℕ
-  absences t zero = 0
-  absences t (suc k) = absent (getD trace t 0) (heldAt m trace words t) + absences (suc t) k
-
   -- accepted with its absences; or the first entry that breaks the rule
-  abbrev Verdict : ℕ → ℕ → ℕ → Answer → Type 0
-  Verdict t k f answer =
-      (((j : ℕ) → t ≤ j → j < t + k → KeepsAt j) × (answer ≡ Faults (f + absences t k)))
-      ⊎ ((s : ℕ) × (t ≤ s) × (s < t + k) × ((j : ℕ) → t ≤ j → j < s → KeepsAt j) × (KeepsAt s → ⊥) × (answer ≡ Refused (PlanBroken s)))
+  abbrev Judgement : ℕ → ℕ → ℕ → Answer → Type 0
+  Judgement t k f answer =
+      (((j : ℕ) → t ≤ j → j < t + k → KeepsAt m trace words j) × (answer ≡ Faults (f + absences m trace words t k)))
+      ⊎ ((s : ℕ) × (t ≤ s) × (s < t + k) × ((j : ℕ) → t ≤ j → j < s → KeepsAt m trace words j) × (KeepsAt m trace words s → ⊥) × (answer ≡ Refused (PlanBroken s)))
 
   -- one request of the check
   check-step : (t f : ℕ) → t < length trace → length trace ≤ length words
@@ -90,7 +74,7 @@ module _ (m : ℕ) (trace words : List ℕ) where
   check-step t f h l = rw (drop-cons trace t 0 h, drop-cons words t 0 (omega arith))
 
   verdict : (k t f : ℕ) → t + k ≡ length trace → length trace ≤ length words
-      → Verdict t k f (checkFrom m t f (heldAt m trace words t) (drop t trace) (drop t words))
+      → Judgement t k f (checkFrom m t f (heldAt m trace words t) (drop t trace) (drop t words))
   unfolding checkFrom absences
   verdict zero t f h l =
       inl ((λ j a b. absurd (omega arith)), rw (drop-of-length-le trace (let x : length trace ≤ t = omega arith in x)) (ap Faults (omega arith)))
@@ -108,12 +92,12 @@ module _ (m : ℕ) (trace words : List ℕ) where
       step = check-step t f (omega arith) l
 
       -- the entry of moment t, then those from the next on
-      more : (s : ℕ) → KeepsAt t → ((j : ℕ) → suc t ≤ j → j < s → KeepsAt j) → (j : ℕ) → t ≤ j → j < s → KeepsAt j
-      more s now then j a b = elim (ℕ-discrete j t) [ yes e ↦ subst KeepsAt (sym e) now | no e ↦ then j (omega arith) b ]
+      more : (s : ℕ) → KeepsAt m trace words t → ((j : ℕ) → suc t ≤ j → j < s → KeepsAt m trace words j) → (j : ℕ) → t ≤ j → j < s → KeepsAt m trace words j
+      more s now then j a b = elim (ℕ-discrete j t) [ yes e ↦ subst (KeepsAt m trace words) (sym e) now | no e ↦ then j (omega arith) b ]
 
-      go : ((verdict-now ≡ Open) × KeepsAt t) ⊎ ((verdict-now ≡ No (PlanBroken t)) × (KeepsAt t → ⊥))
-          → Verdict (suc t) k (f + absent (getD trace t 0) (heldAt m trace words t)) rest
-          → Verdict t (suc k) f (checkFrom m t f (heldAt m trace words t) (drop t trace) (drop t words))
+      go : ((verdict-now ≡ Open) × KeepsAt m trace words t) ⊎ ((verdict-now ≡ No (PlanBroken t)) × (KeepsAt m trace words t → ⊥))
+          → Judgement (suc t) k (f + absent (getD trace t 0) (heldAt m trace words t)) rest
+          → Judgement t (suc k) f (checkFrom m t f (heldAt m trace words t) (drop t trace) (drop t words))
       go (inl (o, now)) (inl (then, e)) =
           inl (more (t + suc k) now (λ j a b. then j a (omega arith)), step ∙ ap (λ (g : Gate). through g rest) o ∙ e ∙ ap Faults (omega arith))
       go (inl (o, now)) (inr (s, a, b, then, bad, e)) =
@@ -124,7 +108,7 @@ module _ (m : ℕ) (trace words : List ℕ) where
 
 -- with T words at least
 module _ (m : ℕ) (trace words : List ℕ) (enough : length trace ≤ length words) where
-  judgement : Verdict m trace words 0 (length trace) 0 (check m trace words)
+  judgement : Judgement m trace words 0 (length trace) 0 (check m trace words)
   unfolding check heldAt
   judgement = verdict m trace words (length trace) 0 0 (omega arith) enough
 
@@ -132,12 +116,12 @@ module _ (m : ℕ) (trace words : List ℕ) (enough : length trace ≤ length wo
   pub accepted-exactly : ((g : ℕ) × (check m trace words ≡ Faults g)) ↔ ((t : ℕ) → t < length trace → KeepsAt m trace words t)
   accepted-exactly = ((λ a. go judgement (a .0) (a .1)), λ keep. back judgement keep)
     where
-      go : Verdict m trace words 0 (length trace) 0 (check m trace words)
+      go : Judgement m trace words 0 (length trace) 0 (check m trace words)
           → (g : ℕ) → check m trace words ≡ Faults g → (t : ℕ) → t < length trace → KeepsAt m trace words t
       go (inl (keep, e)) g a t h = keep t (omega arith) (omega arith)
       go (inr (s, x, y, z, bad, e)) g a t h = absurd (let k : _≡_ {A = ℕ} 0 1 = cc in omega arith)
 
-      back : Verdict m trace words 0 (length trace) 0 (check m trace words) → ((t : ℕ) → t < length trace → KeepsAt m trace words t)
+      back : Judgement m trace words 0 (length trace) 0 (check m trace words) → ((t : ℕ) → t < length trace → KeepsAt m trace words t)
           → (g : ℕ) × (check m trace words ≡ Faults g)
       back (inl (k, e)) keep = (0 + absences m trace words 0 (length trace), e)
       back (inr (s, x, y, z, bad, e)) keep = absurd (bad (keep s (omega arith)))
@@ -146,7 +130,7 @@ module _ (m : ℕ) (trace words : List ℕ) (enough : length trace ≤ length wo
   pub accepted-count : (g : ℕ) → check m trace words ≡ Faults g → g ≡ absences m trace words 0 (length trace)
   accepted-count g a = go judgement
     where
-      go : Verdict m trace words 0 (length trace) 0 (check m trace words) → g ≡ absences m trace words 0 (length trace)
+      go : Judgement m trace words 0 (length trace) 0 (check m trace words) → g ≡ absences m trace words 0 (length trace)
       go (inl (keep, e)) = let k : g ≡ 0 + absences m trace words 0 (length trace) = cc in omega arith
       go (inr (s, x, y, z, bad, e)) = absurd (let k : _≡_ {A = ℕ} 0 1 = cc in omega arith)
 
@@ -155,7 +139,7 @@ module _ (m : ℕ) (trace words : List ℕ) (enough : length trace ≤ length wo
       → (s : ℕ) × (r ≡ PlanBroken s) × (s < length trace) × (KeepsAt m trace words s → ⊥) × ((t : ℕ) → t < s → KeepsAt m trace words t)
   refused-first r a = go judgement
     where
-      go : Verdict m trace words 0 (length trace) 0 (check m trace words)
+      go : Judgement m trace words 0 (length trace) 0 (check m trace words)
           → (s : ℕ) × (r ≡ PlanBroken s) × (s < length trace) × (KeepsAt m trace words s → ⊥) × ((t : ℕ) → t < s → KeepsAt m trace words t)
       go (inl (keep, e)) = absurd (let k : _≡_ {A = ℕ} 0 1 = cc in omega arith)
       go (inr (s, x, y, z, bad, e)) = (s, (cc), omega arith, bad, λ t h. z t (omega arith) h)

@@ -25,15 +25,15 @@ unfolding planIn
 words-length [] = refl
 words-length (o ∷ os) = ap suc (words-length os)
 
-pub outcomes-length : (rule : Rule) (n t : ℕ) (ps : List ℕ) (es : List Entry) → length (outcomes rule n t ps es) ≡ length ps
+pub outcomes-length : (rule : Rule) (n t : ℕ) (past ps : List ℕ) (es : List Entry) → length (outcomes rule n t past ps es) ≡ length ps
 unfolding outcomes
-outcomes-length rule n t [] es = refl
-outcomes-length rule n t (p ∷ ps) es = ap suc (outcomes-length rule n (suc t) ps _)
+outcomes-length rule n t past [] es = refl
+outcomes-length rule n t past (p ∷ ps) es = ap suc (outcomes-length rule n (suc t) _ ps _)
 
 -- a plan has one word for each request
 pub plan-length : (rule : Rule) (n : ℕ) (trace : List ℕ) → length (plan rule n trace) ≡ length trace
 unfolding plan
-plan-length rule n trace = words-length (outcomes rule n 0 trace []) ∙ outcomes-length rule n 0 trace []
+plan-length rule n trace = words-length (outcomes rule n 0 [] trace []) ∙ outcomes-length rule n 0 [] trace []
 
 -- with room for all of it the list is laid whole
 pub laid-whole : (list words : List ℕ) → length list ≤ length words → laid list words ≡ list ++ drop (length list) words

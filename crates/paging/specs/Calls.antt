@@ -4,9 +4,9 @@
 use mathlib.Core.List.{List, [], _∷_}
 use mathlib.Core.Bool.{Bool, true, false}
 use Prim.Native.Nat.{ℕ}
-use lib.Dec.{eqb, ltb}
+use lib.Dec.{ltb}
 use lib.ListN.{length}
-use Rattle.paging.specs.Lists.{pick, any, indexOf}
+use Rattle.paging.specs.Lists.{pick, mem, placeOf}
 use Rattle.paging.specs.Rules.{mark, ruleNumbered}
 use Rattle.paging.specs.declared.Numbered.{Numbered}
 use Rattle.paging.specs.declared.Numbered.the-variants.{Is, Unknown}
@@ -47,12 +47,12 @@ outside n = pick (ltb n 1) true (ltb frameLimit n)
 
 -- 4: a request is the mark; its place is the first such moment
 unfoldable pub marked : List ℕ → Bool
-unfolding any
-marked trace = any (λ (p : ℕ). eqb p mark) trace
+unfolding mem
+marked trace = mem mark trace
 
 unfoldable pub firstMark : List ℕ → ℕ
-unfolding indexOf
-firstMark trace = indexOf (λ (p : ℕ). eqb p mark) trace
+unfolding placeOf
+firstMark trace = placeOf mark trace
 
 -- ---- the chains
 

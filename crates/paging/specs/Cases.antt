@@ -1,5 +1,5 @@
 -- Document 01, "Trials on both sides": the cases marked P, in its order, as one theorem over one list.
--- Beside them: a case for each clause that they leave open; FIFO can fault more with more frames; and the order of refusals, on calls with several causes.
+-- Beside them: a case for each clause, by itself; FIFO can fault more with more frames; and the order of refusals, on calls with several causes.
 -- Assumes nothing.
 use mathlib.Core.Path.{_≡_, refl}
 use mathlib.Core.List.{List, [], _∷_, _++_}
@@ -14,6 +14,7 @@ use Rattle.paging.specs.Rules.{mark}
 use Rattle.paging.specs.Walk.{faults, plan}
 use Rattle.paging.specs.Plans.{check}
 use Rattle.paging.specs.Calls.{gate, ruleTests, lentTests}
+use Rattle.paging.specs.Services.{laid}
 use Rattle.paging.specs.declared.Rule.{Rule}
 use Rattle.paging.specs.declared.Rule.the-variants.{Lru, Fifo, Min, Lru2}
 use Rattle.paging.specs.declared.Gate.{Gate}
@@ -90,23 +91,66 @@ pub cases-hold : all comesOut cases ≡ true
 unfolding all comesOut cases
 cases-hold = refl
 
--- ---- a case for each clause that the P cases leave open
+-- ---- a case for each clause of the rules and of plans, each by itself
 
-pub clauses : List Case
-unfolding o
-clauses =
-    plans Lru 2 (1 ∷ 2 ∷ 1 ∷ 3 ∷ []) (o ∷ o ∷ o ∷ 2 ∷ []) 3
-    ∷ plans Fifo 2 (1 ∷ 2 ∷ 1 ∷ 3 ∷ []) (o ∷ o ∷ o ∷ 1 ∷ []) 3
-    ∷ plans Lru2 3 (1 ∷ 1 ∷ 2 ∷ 3 ∷ 4 ∷ []) (o ∷ o ∷ o ∷ o ∷ 2 ∷ []) 4
-    ∷ plans Lru2 2 (1 ∷ 2 ∷ 2 ∷ 1 ∷ 3 ∷ []) (o ∷ o ∷ o ∷ o ∷ 1 ∷ []) 3
-    ∷ plans Min 2 (9 ∷ 8 ∷ 7 ∷ []) (o ∷ o ∷ 8 ∷ []) 3
-    ∷ checks 3 (5 ∷ 6 ∷ []) (o ∷ 5 ∷ []) (Refused (PlanBroken 1))
-    ∷ checks 1 (5 ∷ 6 ∷ []) (o ∷ 5 ∷ 9 ∷ []) (Faults 2)
-    ∷ []
+-- 1: a hit renews the page's last request
+pub lru-clause : comesOut (plans Lru 2 (1 ∷ 2 ∷ 1 ∷ 3 ∷ []) (mark ∷ mark ∷ mark ∷ 2 ∷ []) 3) ≡ true
+unfolding comesOut
+lru-clause = refl
 
-pub clauses-hold : all comesOut clauses ≡ true
-unfolding all comesOut clauses
-clauses-hold = refl
+-- 2: a hit doesn't renew the page
+pub fifo-clause : comesOut (plans Fifo 2 (1 ∷ 2 ∷ 1 ∷ 3 ∷ []) (mark ∷ mark ∷ mark ∷ 1 ∷ []) 3) ≡ true
+unfolding comesOut
+fifo-clause = refl
+
+-- 3: the next request that is latest; "never again" is later than every moment
+pub min-clause : comesOut (plans Min 2 (1 ∷ 2 ∷ 3 ∷ 1 ∷ 2 ∷ 1 ∷ []) (mark ∷ mark ∷ 2 ∷ mark ∷ 3 ∷ mark ∷ []) 4) ≡ true
+unfolding comesOut
+min-clause = refl
+
+-- 3: among several never requested again, the lowest page number
+pub tie-clause : comesOut (plans Min 2 (9 ∷ 8 ∷ 7 ∷ []) (mark ∷ mark ∷ 8 ∷ []) 3) ≡ true
+unfolding comesOut
+tie-clause = refl
+
+-- 4: of those requested only once since they were loaded, the one whose last request is earliest
+pub once-clause : comesOut (plans Lru2 3 (1 ∷ 1 ∷ 2 ∷ 3 ∷ 4 ∷ []) (mark ∷ mark ∷ mark ∷ mark ∷ 2 ∷ []) 4) ≡ true
+unfolding comesOut
+once-clause = refl
+
+-- 4: otherwise the one whose second to last request is earliest
+pub second-clause : comesOut (plans Lru2 2 (1 ∷ 2 ∷ 2 ∷ 1 ∷ 3 ∷ []) (mark ∷ mark ∷ mark ∷ mark ∷ 1 ∷ []) 3) ≡ true
+unfolding comesOut
+second-clause = refl
+
+-- first loads are faults
+pub load-clause : comesOut (counts Lru 2 (5 ∷ 6 ∷ []) 2) ≡ true
+unfolding comesOut
+load-clause = refl
+
+-- a plan drops nothing while there is room
+pub room-clause : comesOut (checks 3 (5 ∷ 6 ∷ []) (mark ∷ 5 ∷ []) (Refused (PlanBroken 1))) ≡ true
+unfolding comesOut
+room-clause = refl
+
+-- the page being requested isn't held yet
+pub requested-clause : comesOut (checks 1 (5 ∷ 6 ∷ []) (mark ∷ 6 ∷ []) (Refused (PlanBroken 1))) ≡ true
+unfolding comesOut
+requested-clause = refl
+
+-- of several entries that break the rule the first is told
+pub first-clause : comesOut (checks 1 (5 ∷ 6 ∷ 7 ∷ []) (5 ∷ 9 ∷ 9 ∷ []) (Refused (PlanBroken 0))) ≡ true
+unfolding comesOut
+first-clause = refl
+
+-- words past the trace aren't read
+pub past-clause : comesOut (checks 1 (5 ∷ 6 ∷ []) (mark ∷ 5 ∷ 9 ∷ []) (Faults 2)) ≡ true
+unfolding comesOut
+past-clause = refl
+
+-- a list is laid over the front of lent words: all of it, or as much as there is room for, and the words past it as they were
+pub laid-clause : (laid (1 ∷ 2 ∷ []) (7 ∷ 8 ∷ 9 ∷ []) ≡ 1 ∷ 2 ∷ 9 ∷ []) × (laid (1 ∷ 2 ∷ []) (7 ∷ []) ≡ 1 ∷ [])
+laid-clause = (refl, refl)
 
 -- ---- FIFO can fault more with more frames
 
@@ -142,9 +186,7 @@ unfolding A o
 calls =
     call 5 0 (replicate 8001 o) [] (No UnknownRule)
     ∷ call 0 257 A A (No UnknownRule)
-    ∷ call 1 0 (replicate 8001 o) [] (No (FramesOutside 0))
     ∷ call 2 257 (replicate 8000 o) [] (No (FramesOutside 0))
-    ∷ call 3 256 (replicate 8001 o) [] (No TraceTooLong)
     ∷ call 4 1 (5 ∷ 6 ∷ o ∷ o ∷ []) [] (No (MarkRequested 2))
     ∷ call 1 256 A (o ∷ []) (No LentTooShort)
     ∷ call 1 256 A A Open
@@ -158,3 +200,13 @@ callComesOut c = sameGate (gate (ruleTests (c .rule) (c .frames) (c .trace) ++ l
 pub calls-hold : all callComesOut calls ≡ true
 unfolding all callComesOut calls
 calls-hold = refl
+
+-- 2 before 3
+pub order-clause : callComesOut (call 1 0 (replicate 8001 mark) [] (No (FramesOutside 0))) ≡ true
+unfolding callComesOut
+order-clause = refl
+
+-- 8,001 requests are too many
+pub limit-clause : callComesOut (call 3 256 (replicate 8001 mark) [] (No TraceTooLong)) ≡ true
+unfolding callComesOut
+limit-clause = refl

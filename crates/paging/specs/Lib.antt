@@ -6,4 +6,5 @@ pub mod Walk
 pub mod Plans
 pub mod Calls
 pub mod Services
+pub mod Meanings
 pub mod Cases

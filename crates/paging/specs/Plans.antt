@@ -4,27 +4,16 @@
 -- The cache is the list of the held pages in frame order.
 -- Assumes nothing.
 use mathlib.Core.List.{List, [], _∷_, _++_}
-use mathlib.Core.Bool.{Bool}
 use Prim.Native.Nat.{ℕ, zero, suc, _+_}
 use lib.Dec.{eqb, ltb}
 use lib.ListN.{length, getD, set}
-use Rattle.paging.specs.Lists.{pick, any, indexOf}
+use Rattle.paging.specs.Lists.{pick, mem, placeOf}
 use Rattle.paging.specs.Rules.{mark}
 use Rattle.paging.specs.declared.Gate.{Gate}
 use Rattle.paging.specs.declared.Gate.the-variants.{Open, No}
 use Rattle.paging.specs.declared.Answer.{Answer}
 use Rattle.paging.specs.declared.Answer.the-variants.{Faults, Refused}
 use Rattle.paging.specs.declared.Refusal.the-variants.{LentTooShort, PlanBroken}
-
--- page p is among the pages of a list
-unfoldable pub mem : ℕ → List ℕ → Bool
-unfolding any
-mem p held = any (λ (q : ℕ). eqb q p) held
-
--- where page p first stands in a list, which among held pages is its frame; the length, if nowhere
-unfoldable pub placeOf : ℕ → List ℕ → ℕ
-unfolding indexOf
-placeOf p held = indexOf (λ (q : ℕ). eqb q p) held
 
 -- ---- one entry, w, for the request of page p at moment t in m frames
 

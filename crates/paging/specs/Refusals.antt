@@ -2,6 +2,9 @@
 -- A refusal's answer has 0 for every other number (faults, sizes, counts).
 -- Assumes nothing.
 use Prim.Native.Nat.{ℕ}
+use Rattle.paging.specs.declared.Gate.{Gate}
+use Rattle.paging.specs.declared.Gate.the-variants.{Open, No}
+use Rattle.paging.specs.declared.GateNumbers.{GateNumbers}
 use Rattle.paging.specs.declared.Refusal.{Refusal}
 use Rattle.paging.specs.declared.Refusal.the-variants.{UnknownRule, FramesOutside, TraceTooLong, MarkRequested, UnsoundRecord, LentTooShort, PlanBroken, ClockFull, FileCut, CountNotAllowed, BytesLeftOver, PlanAboveCache}
 
@@ -25,3 +28,8 @@ table (FileCut at) = row 9 at
 table (CountNotAllowed at) = row 10 at
 table (BytesLeftOver at) = row 11 at
 table PlanAboveCache = row 12 8
+
+-- the numbers of a gate; where it is open both are 0
+abbrev pub gateNumbers : Gate → GateNumbers
+gateNumbers Open = record { number = 0; place = 0 }
+gateNumbers (No refusal) = record { number = table refusal .number; place = table refusal .place }

@@ -1,14 +1,14 @@
 -- Document 01, "Four rules": which page goes when a fault finds the cache full.
 --
--- A rule is a description: `drops rule rest es e` is true of the entry e that goes, among the held entries es, with the requests rest still to come.
--- Exactly one entry fits it (proofs/Drops.antt, which also says each description in terms of the trace); its frame is `chosen`.
+-- A rule is a description: `drops rule sees es e` is true of the entry e that goes, among the held entries es, with what the rule sees of the list of
+-- requests. Exactly one entry fits it (proofs/Drops.antt; specs/Meanings.antt says each description in terms of the trace); its frame is `chosen`.
 -- Assumes nothing.
 use mathlib.Core.Bool.{Bool}
 use mathlib.Core.List.{List, []}
 use Prim.Native.Nat.{ℕ}
 use lib.Dec.{eqb, leb}
 use lib.ListN.{length}
-use Rattle.paging.specs.Lists.{pick, both, implies, any, all, indexOf}
+use Rattle.paging.specs.Lists.{pick, both, implies, any, all, indexOf, placeOf}
 use Rattle.paging.specs.declared.Entry.{Entry}
 use Rattle.paging.specs.declared.Rule.{Rule}
 use Rattle.paging.specs.declared.Rule.the-variants.{Lru, Fifo, Min, Lru2}
@@ -19,12 +19,27 @@ use Rattle.paging.specs.declared.Numbered.the-variants.{Is, Unknown}
 abbrev pub mark : ℕ
 mark = 4294967295
 
+-- ---- what a rule sees of the list of requests, at one of them. MIN reads the requests to come; no rule reads those before
+
+pub record Sees : Type 0 where
+  -- the requests before this one, in order
+  pub past : List ℕ
+  -- the requests to come
+  pub rest : List ℕ
+
+abbrev pub between : List ℕ → List ℕ → Sees
+between past rest = record { past = past; rest = rest }
+
+-- what a rule sees that is shown no requests, as in a record that is fed
+abbrev pub noRequests : Sees
+noRequests = between [] []
+
 -- ---- the words of the table
 
 -- how many of the requests to come stand before page p's next one; for "never again", as many as there are: later than every moment
 unfoldable pub nextOf : List ℕ → ℕ → ℕ
-unfolding indexOf
-nextOf rest p = indexOf (λ (q : ℕ). eqb q p) rest
+unfolding placeOf
+nextOf rest p = placeOf p rest
 
 -- page p is never requested again
 unfoldable pub never : List ℕ → ℕ → Bool
@@ -66,17 +81,17 @@ lru2Drops es e =
 
 -- ---- the four together
 
-unfoldable pub drops : Rule → List ℕ → List Entry → Entry → Bool
+unfoldable pub drops : Rule → Sees → List Entry → Entry → Bool
 unfolding lruDrops fifoDrops minDrops lru2Drops
-drops Lru rest es = lruDrops es
-drops Fifo rest es = fifoDrops es
-drops Min rest es = minDrops rest es
-drops Lru2 rest es = lru2Drops es
+drops Lru sees es = lruDrops es
+drops Fifo sees es = fifoDrops es
+drops Min sees es = minDrops (sees .rest) es
+drops Lru2 sees es = lru2Drops es
 
 -- the frame whose page goes
-unfoldable pub chosen : Rule → List ℕ → List Entry → ℕ
+unfoldable pub chosen : Rule → Sees → List Entry → ℕ
 unfolding drops indexOf
-chosen rule rest es = indexOf (drops rule rest es) es
+chosen rule sees es = indexOf (drops rule sees es) es
 
 -- document 01's numbers of the rules
 abbrev pub ruleNumbered : ℕ → Numbered

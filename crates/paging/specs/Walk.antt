@@ -6,10 +6,10 @@
 use mathlib.Core.List.{List, [], _∷_, _++_, map}
 use mathlib.Core.Bool.{Bool}
 use Prim.Native.Nat.{ℕ, zero, suc, _+_}
-use lib.Dec.{eqb, ltb}
-use lib.ListN.{length, getD, set, drop}
-use Rattle.paging.specs.Lists.{pick, any, indexOf}
-use Rattle.paging.specs.Rules.{mark, chosen}
+use lib.Dec.{ltb}
+use lib.ListN.{length, getD, set, take, drop}
+use Rattle.paging.specs.Lists.{pick, mem, placeOf}
+use Rattle.paging.specs.Rules.{mark, Sees, between, chosen}
 use Rattle.paging.specs.declared.Entry.{Entry}
 use Rattle.paging.specs.declared.Rule.{Rule}
 use Rattle.paging.specs.declared.Outcome.{Outcome}
@@ -17,15 +17,19 @@ use Rattle.paging.specs.declared.Outcome.the-variants.{Hit, Loaded, Drop
 
 -- ---- which frame
 
+-- the held pages in frame order
+abbrev pub pages : List Entry → List ℕ
+pages es = map (λ (e : Entry). e .page .0) es
+
 -- page p is held
 unfoldable pub holds : ℕ → List Entry → Bool
-unfolding any
-holds p es = any (λ (e : Entry). eqb (e .page .0) p) es
+unfolding mem
+holds p es = mem p (pages es)
 
 -- the frame that holds page p
 unfoldable pub frameOf : ℕ → List Entry → ℕ
-unfolding indexOf
-frameOf p es = indexOf (λ (e : Entry). eqb (e .page .0) p) es
+unfolding placeOf
+frameOf p es = placeOf p (pages es)
 
 -- what a read past the last frame in use would give; with n from 1 no definition reads there
 abbrev pub zeroEntry : Entry
@@ -34,10 +38,6 @@ zeroEntry =
 
 abbrev pub entryAt : List Entry → ℕ → Entry
 entryAt es frame = getD es frame zeroEntry
-
--- the held pages in frame order
-abbrev pub pages : List Entry → List ℕ
-pages es = map (λ (e : Entry). e .page .0) es
 
 -- ---- the two ways to write an entry
 
@@ -52,25 +52,27 @@ renewed t e = record { page = e .page; loaded = e .loaded; last = record { 0 = t
 
 -- ---- one request, of page p at moment t: a hit; a load with room, in the lowest free frame; a load in place of the page dropped, in its frame
 
-unfoldable pub outcome : Rule → ℕ → ℕ → List ℕ → List Entry → Outcome
+unfoldable pub outcome : Rule → ℕ → ℕ → Sees → List Entry → Outcome
 unfolding holds chosen
-outcome rule n p rest es =
+outcome rule n p sees es =
     pick (holds p es) Hit
-    (pick (ltb (length es) n) Loaded (Dropped (entryAt es (chosen rule rest es) .page)))
+    (pick (ltb (length es) n) Loaded (Dropped (entryAt es (chosen rule sees es) .page)))
 
-unfoldable pub next : Rule → ℕ → ℕ → ℕ → List ℕ → List Entry → List Entry
+unfoldable pub next : Rule → ℕ → ℕ → ℕ → Sees → List Entry → List Entry
 unfolding holds frameOf chosen
-next rule n t p rest es =
+next rule n t p sees es =
     pick (holds p es) (set es (frameOf p es) (renewed t (entryAt es (frameOf p es))))
     (pick (ltb (length es) n) (es ++ (loadedAt t p ∷ []))
-    (set es (chosen rule rest es) (loadedAt t p)))
+    (set es (chosen rule sees es) (loadedAt t p)))
 
--- ---- the walk, from any state
+-- ---- the walk, from any state, with the requests before it
 
-unfoldable pub outcomes : Rule → ℕ → ℕ → List ℕ → List Entry → List Outcome
+unfoldable pub outcomes : Rule → ℕ → ℕ → List ℕ → List ℕ → List Entry → List Outcome
 unfolding outcome next
-outcomes rule n t [] es = []
-outcomes rule n t (p ∷ rest) es = outcome rule n p rest es ∷ outcomes rule n (suc t) rest (next rule n t p rest es)
+outcomes rule n t past [] es = []
+outcomes rule n t past (p ∷ rest) es =
+    outcome rule n p (between past rest) es
+    ∷ outcomes rule n (suc t) (past ++ (p ∷ [])) rest (next rule n t p (between past rest) es)
 
 -- ---- its two readings
 
@@ -97,15 +99,21 @@ planIn (o ∷ os) = wordOf o ∷ planIn os
 -- every rule starts empty
 unfoldable pub faults : Rule → ℕ → List ℕ → ℕ
 unfolding faultsIn outcomes
-faults rule n trace = faultsIn (outcomes rule n 0 trace [])
+faults rule n trace = faultsIn (outcomes rule n 0 [] trace [])
 
 unfoldable pub plan : Rule → ℕ → List ℕ → List ℕ
 unfolding planIn outcomes
-plan rule n trace = planIn (outcomes rule n 0 trace [])
+plan rule n trace = planIn (outcomes rule n 0 [] trace [])
 
--- ---- the entries held just before the request of moment t, in a walk from empty
+-- ---- the state just before the request of moment t, in a walk from empty
+
+-- what a rule sees there
+abbrev pub seesAt : List ℕ → ℕ → Sees
+seesAt trace t = between (take t trace) (drop (suc t) trace)
+
+-- the entries held
 
 unfoldable pub entriesAt : Rule → ℕ → List ℕ → ℕ → List Entry
 unfolding next
 entriesAt rule n trace zero = []
-entriesAt rule n trace (suc t) = next rule n t (getD trace t 0) (drop (suc t) trace) (entriesAt rule n trace t)
+entriesAt rule n trace (suc t) = next rule n t (getD trace t 0) (seesAt trace t) (entriesAt rule n trace t)

@@ -1,7 +1,7 @@
 // The words of document 01: pages, frames and moments, the four rules, what a request comes to, and the twelve ways to say no.
 // The rules themselves, the walk and plans are definitions in specs/; their laws are in proofs/.
 ghost use mathlib.Core.Path.{_≡_};
-ghost use Rattle.paging.specs.Refusals.{table};
+ghost use Rattle.paging.specs.Refusals.{table, gateNumbers};
 ghost use Rattle.paging.specs.Rules.{ruleNumbered};
 ghost use Rattle.paging.specs.Walk.{faultOf, wordOf};
 
@@ -150,6 +150,29 @@ impl Refusal {
 pub enum Gate {
     Open,
     No(Refusal),
+}
+
+// The numbers of a gate: a refusal's number and place, 0 for both where the gate is open.
+pub struct GateNumbers {
+    pub number: u32,
+    pub place: u32,
+}
+
+impl Gate {
+    pub fn numbers(self) -> GateNumbers
+        ensures { λ r. ⌜ r ≡ gateNumbers self ⌝ }
+    {
+        match self {
+            Gate::Open => GateNumbers {
+                number: 0,
+                place: 0,
+            },
+            Gate::No(refusal) => GateNumbers {
+                number: refusal.number(),
+                place: refusal.place(),
+            },
+        }
+    }
 }
 
 // The answer of a service that counts.

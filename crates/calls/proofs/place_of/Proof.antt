@@ -5,7 +5,7 @@ use Prim.Native.Nat.{_+_, _-_, _≤_}
 use native.Mathlib.Omega.{arith}
 use borrow.Author.Needs.{needs}
 use lib.ListN.{length, drop}
-use Rattle.paging.specs.Plans.{placeOf}
+use Rattle.paging.specs.Lists.{placeOf}
 use Rattle.calls.proofs.Search.{place-here, place-on, place-end}
 use Rattle.calls.proofs.place_of.Statement.{statement}
 use Rattle.calls.proofs.place_of.Tie as tie

@@ -6,6 +6,7 @@ use borrow.Author.Needs.{needs}
 use Rattle.paging.specs.Calls.{gate, ruleTests}
 use Rattle.paging.specs.declared.Gate.{Gate}
 use Rattle.calls.specs.Chain.{lentGate}
+use Rattle.calls.specs.Answers.{answerNumbers}
 use Rattle.calls.proofs.Chain.{gate-lent}
 use Rattle.counts.specs.Counts.{planTests}
 use Rattle.counts.proofs.Chains.{plan-refused, same-answer, same-words}
@@ -44,7 +45,8 @@ returns : tie.Need-returns
 returns c =
     let g = c .before .before .before in
     let s = g .before .before .before .before in
-    plan-refused (s .args .rule) (s .args .n) (s .args .trace .now) (s .args .words .now) _ (sym (chain g) ∙ c .before .refusal .given .1)
+    let (answer, words) = plan-refused (s .args .rule) (s .args .n) (s .args .trace .now) (s .args .words .now) _ (sym (chain g) ∙ c .before .refusal .given .1) in
+    (answer, words, ap answerNumbers answer)
 
 same-length : tie.Need-same-length
 same-length c = search needs
@@ -54,10 +56,9 @@ returns-2 c =
     let r = c .before .before in
     let g = r .before .before .before .before in
     let s = g .before .before .before .before in
-    let o = sym (chain g) ∙ r .before .before .enum-told .given .1 in (
-      r .run .ensures .0 ∙ same-answer (s .args .rule) (s .args .n) (s .args .trace .now) (s .args .words .now) o,
-      r .run .ensures .1 ∙ same-words (s .args .rule) (s .args .n) (s .args .trace .now) (s .args .words .now) o,
-    )
+    let o = sym (chain g) ∙ r .before .before .enum-told .given .1 in
+    let answer = r .run .ensures .0 ∙ same-answer (s .args .rule) (s .args .n) (s .args .trace .now) (s .args .words .now) o in
+    (answer, r .run .ensures .1 ∙ same-words (s .args .rule) (s .args .n) (s .args .trace .now) (s .args .words .now) o, ap answerNumbers answer)
 
 pub write-plan-spec : {M : Type 1} → statement M
 write-plan-spec =

@@ -21,7 +21,7 @@ same-length : tie.Need-same-length
 same-length c = search needs
 
 returns : tie.Need-returns
-returns c = rw (c .before .before .lay .ensures, c .before .before .before .before .before .verdict-numbers .ensures, c .before .before .before .before .before .before .better .ensures) refl
+returns c = rw (c .before .before .lay .ensures, c .before .before .before .before .before .verdict-numbers .ensures, c .before .before .before .before .before .before .better .ensures .0) refl
 
 pub hedravos-better-spec : {M : Type 1} → statement M
 hedravos-better-spec =

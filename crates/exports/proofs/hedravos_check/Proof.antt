@@ -15,7 +15,7 @@ same-length : tie.Need-same-length
 same-length c = search needs
 
 returns : tie.Need-returns
-returns c = rw (c .before .before .put-count .ensures, c .before .before .before .before .check .ensures) refl
+returns c = rw (c .before .before .put-count .ensures, c .before .before .before .before .check .ensures .0) refl
 
 pub hedravos-check-spec : {M : Type 1} → statement M
 hedravos-check-spec = tie.close (tie.spec check-requires put-count-requires same-length returns)

@@ -15,7 +15,7 @@ same-length : tie.Need-same-length
 same-length c = search needs
 
 returns : tie.Need-returns
-returns c = rw (c .before .before .put-count .ensures, c .before .before .before .before .count .ensures) refl
+returns c = rw (c .before .before .put-count .ensures, c .before .before .before .before .count .ensures .0) refl
 
 pub hedravos-count-spec : {M : Type 1} → statement M
 hedravos-count-spec = tie.close (tie.spec count-requires put-count-requires same-length returns)

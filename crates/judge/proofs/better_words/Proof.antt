@@ -15,13 +15,13 @@ enum-told : tie.Need-enum-told
 enum-told c = search needs
 
 slice-aggregate-result : tie.Need-slice-aggregate-result
-slice-aggregate-result c = sym (length-take-le _ _ (words-first _ _ _ _ _ (sym (c .before .before .before .better .ensures) ∙ c .before .enum-told .given .1) .0))
+slice-aggregate-result c = sym (length-take-le _ _ (words-first _ _ _ _ _ (sym (c .before .before .before .better .ensures .0) ∙ c .before .enum-told .given .1) .0))
 
 enum-told-2 : tie.Need-enum-told-2
 enum-told-2 c = search needs
 
 slice-aggregate-result-2 : tie.Need-slice-aggregate-result-2
-slice-aggregate-result-2 c = sym (length-take-le _ _ (words-second _ _ _ _ _ (sym (c .before .before .before .better .ensures) ∙ c .before .enum-told2 .given .1) .0))
+slice-aggregate-result-2 c = sym (length-take-le _ _ (words-second _ _ _ _ _ (sym (c .before .before .before .better .ensures .0) ∙ c .before .enum-told2 .given .1) .0))
 
 enum-told-3 : tie.Need-enum-told-3
 enum-told-3 c = search needs
@@ -31,15 +31,15 @@ slice-aggregate-result-3 c = search needs
 
 returns : tie.Need-returns
 unfolding betterWords
-returns c = rw (← c .before .before .before .better .ensures, c .before .enum-told .given .1) (refl, refl)
+returns c = rw (← c .before .before .before .better .ensures .0, c .before .enum-told .given .1) (refl, refl)
 
 returns-2 : tie.Need-returns-2
 unfolding betterWords
-returns-2 c = rw (← c .before .before .before .better .ensures, c .before .enum-told2 .given .1) (refl, refl)
+returns-2 c = rw (← c .before .before .before .better .ensures .0, c .before .enum-told2 .given .1) (refl, refl)
 
 returns-3 : tie.Need-returns-3
 unfolding betterWords
-returns-3 c = rw (← c .before .before .before .better .ensures, c .before .enum-told3 .given .1) (refl, refl)
+returns-3 c = rw (← c .before .before .before .better .ensures .0, c .before .enum-told3 .given .1) (refl, refl)
 
 pub better-words-spec : {M : Type 1} → statement M
 better-words-spec =

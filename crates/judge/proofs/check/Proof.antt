@@ -1,10 +1,11 @@
 -- `judge::check` meets its contract: the chain of refusals, then the walk where the gate is open.
 -- Assumes nothing.
 use borrow.Author.Needs.{needs}
-use mathlib.Core.Path.{_≡_, sym, _∙_}
+use mathlib.Core.Path.{_≡_, refl, sym, ap, _∙_}
 use mathlib.Core.List.{_++_}
 use Rattle.paging.specs.Calls.{gate, traceTests, lentTests}
 use Rattle.calls.proofs.Chain.{gate-lent}
+use Rattle.calls.specs.Answers.{answerNumbers}
 use Rattle.judge.specs.Check.{checkOf}
 use Rattle.judge.proofs.Accepted.{open-exactly}
 use Rattle.judge.proofs.check.Statement.{statement}
@@ -34,11 +35,11 @@ walked-requires c κs =
 
 returns : tie.Need-returns
 unfolding checkOf
-returns c = rw (← gated (c .before .before .before), c .before .refusal .given .1)
+returns c = rw (← gated (c .before .before .before), c .before .refusal .given .1) (refl, refl)
 
 returns-2 : tie.Need-returns-2
 unfolding checkOf
-returns-2 c = rw (← gated (c .before .before .before), c .before .enum-told .given .1) (c .walked .ensures)
+returns-2 c = rw (← gated (c .before .before .before), c .before .enum-told .given .1) (c .walked .ensures, ap answerNumbers (c .walked .ensures))
 
 pub check-spec : {M : Type 1} → statement M
 check-spec =

@@ -6,7 +6,7 @@ use native.Mathlib.Omega.{arith}
 use borrow.Author.Needs.{needs}
 use lib.ListN.{length, getD, drop}
 use Rattle.paging.specs.Plans.{checkFrom, check}
-use Rattle.judge.specs.Check.{pagesOf}
+use Rattle.judge.specs.Devices.{walkPages}
 use Rattle.judge.proofs.Steps.{absent-le, passed-held, check-end, check-on, check-stop}
 use Rattle.judge.proofs.walked.Statement.{statement}
 use Rattle.judge.proofs.walked.Tie as tie
@@ -16,7 +16,7 @@ Inv-loop m trace words walk₀ i₀ walk i =
     (i ≤ length trace)
     × (walk .count ≤ m)
     × (walk .faults ≤ i)
-    × (checkFrom m i (walk .faults) (pagesOf walk) (drop i trace) (drop i words) ≡ check m trace words)
+    × (checkFrom m i (walk .faults) (walkPages walk) (drop i trace) (drop i words) ≡ check m trace words)
 
 abbrev μ-loop : tie.MeasureT-loop
 μ-loop m trace words walk₀ i₀ walk i = length trace - i
@@ -80,7 +80,7 @@ loop-again c =
     let (pages, (faults, count)) = c .served .ensures in (
       omega arith,
       count,
-      rw faults (omega (arith, absent-le (getD (s .args .trace .now) (l .loop .i) 0) (pagesOf (l .loop .walk)))),
+      rw faults (omega (arith, absent-le (getD (s .args .trace .now) (l .loop .i) 0) (walkPages (l .loop .walk)))),
       rw (faults, pages) (sym (check-on _ _ _ _ _ _ test (s .pre .2) _ (c .before .before .before .judge-entry .ensures) (c .before .enum-told .given .1)) ∙ l .loop .inv .3),
     )
 

@@ -7,7 +7,7 @@ use lib.ListN.{length, drop, length-drop}
 use lib.Seq.{take-all}
 use borrow.Author.Needs.{needs}
 use Rattle.paging.specs.Rules.{nextOf}
-use Rattle.paging.specs.Plans.{placeOf}
+use Rattle.paging.specs.Lists.{placeOf}
 use Rattle.paging.proofs.Choice.{next-le}
 use Rattle.minimum.proofs.Farthest.{place-next}
 use Rattle.minimum.proofs.next_request.Statement.{statement}

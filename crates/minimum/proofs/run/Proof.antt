@@ -7,7 +7,8 @@ use Rattle.paging.specs.declared.Rule.the-variants.{Min}
 use Rattle.paging.specs.declared.Gate.the-variants.{Open}
 use Rattle.paging.specs.declared.Answer.the-variants.{Faults}
 use Rattle.paging.proofs.Services.{answered-open, answered-no, written-open, written-no}
-use Rattle.calls.proofs.Chain.{InOrder, trace-open}
+use Rattle.paging.specs.Meanings.{InOrder}
+use Rattle.calls.proofs.Chain.{trace-open}
 use Rattle.minimum.proofs.run.Statement.{statement}
 use Rattle.minimum.proofs.run.Tie as tie
 

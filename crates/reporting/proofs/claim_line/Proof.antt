@@ -45,7 +45,7 @@ returns-2 c =
     let k = l .before in
     let e = k .before .before in
     let s = e .before .before .before .before .before in
-    rw (ne-eqb _ _ (e .if1 .left)) (put-same (ap (claimed (s .args .sizes .m)) (k .check .ensures)) (l .claimed .ensures))
+    rw (ne-eqb _ _ (e .if1 .left)) (put-same (ap (claimed (s .args .sizes .m)) (k .check .ensures .0)) (l .claimed .ensures))
 
 pub claim-line-spec : {M : Type 1} → statement M
 claim-line-spec =

@@ -28,7 +28,7 @@ returns c =
     let n = a .before in
     let s = n .before .before .before .before in
     put-same
-    (ap (λ (told : AnswerNumbers). line (s .args .name .now) (s .args .frames) (told .faults)) (a .answer-numbers .ensures ∙ ap answerNumbers (n .count .ensures)))
+    (ap (λ (told : AnswerNumbers). line (s .args .name .now) (s .args .frames) (told .faults)) (a .answer-numbers .ensures ∙ ap answerNumbers (n .count .ensures .0)))
     (l .line .ensures)
 
 pub rule-line-spec : {M : Type 1} → statement M

@@ -5,8 +5,7 @@ use Prim.Native.Nat.{_+_, _≤_, _-_}
 use native.Mathlib.Omega.{arith}
 use lib.ListN.{length, getD, take}
 use borrow.Author.Needs.{needs}
-use Rattle.paging.specs.Lists.{not, both}
-use Rattle.paging.specs.Plans.{mem}
+use Rattle.paging.specs.Lists.{not, both, mem}
 use Rattle.paging.proofs.Frames.{pages-length}
 use Rattle.cache.specs.Record.{heldEntries}
 use Rattle.cache.specs.Sound.{pagesDiffer, pairwise}

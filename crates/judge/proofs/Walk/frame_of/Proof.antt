@@ -5,7 +5,7 @@ use native.Mathlib.Omega.{arith}
 use lib.Seq.{length-take-le}
 use mathlib.Core.Path.{sym}
 use Rattle.calls.proofs.Search.{place-le}
-use Rattle.judge.specs.Check.{pagesOf}
+use Rattle.judge.specs.Devices.{walkPages}
 use Rattle.judge.proofs.Walks.{long, held-length}
 use Rattle.judge.proofs.Walk.frame_of.Statement.{statement}
 use Rattle.judge.proofs.Walk.frame_of.Tie as tie
@@ -25,7 +25,7 @@ place-of-requires c κs = search needs
 cast-t8 : tie.Need-cast-t8
 cast-t8 c =
     let s = c .before .before .before .before in
-    omega (arith, c .place-of .ensures, s .pre, place-le (s .args .p .0) (pagesOf (s .args .self)), held-length (s .args .self) _ (s .good .0) (s .pre))
+    omega (arith, c .place-of .ensures, s .pre, place-le (s .args .p .0) (walkPages (s .args .self)), held-length (s .args .self) _ (s .good .0) (s .pre))
 
 returns : tie.Need-returns
 returns c = search needs

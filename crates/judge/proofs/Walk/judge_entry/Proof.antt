@@ -6,22 +6,23 @@ use mathlib.Core.Bool.{true, false}
 use lib.Dec.{ltb}
 use lib.ListN.{length}
 use borrow.Author.Tests.{lt-ltb, le-ltb}
-use Rattle.paging.specs.Plans.{mem, judged}
-use Rattle.judge.specs.Check.{pagesOf}
+use Rattle.paging.specs.Lists.{mem}
+use Rattle.paging.specs.Plans.{judged}
+use Rattle.judge.specs.Devices.{walkPages}
 use Rattle.judge.proofs.Walks.{held-length, found, lost}
 use Rattle.judge.proofs.Walk.judge_entry.Statement.{statement}
 use Rattle.judge.proofs.Walk.judge_entry.Tie as tie
 
-hit : (c : tie.Then1) → mem (c .before .before .before .args .p .0) (pagesOf (c .before .before .before .args .self)) ≡ true
+hit : (c : tie.Then1) → mem (c .before .before .before .args .p .0) (walkPages (c .before .before .before .args .self)) ≡ true
 hit c = let s = c .before .before .before in found (s .args .self) _ (s .good .0) (s .pre) _ _ (c .before .before .frame-of .ensures) (c .if1 .taken)
 
-miss : (c : tie.Else1) → mem (c .before .before .before .args .p .0) (pagesOf (c .before .before .before .args .self)) ≡ false
+miss : (c : tie.Else1) → mem (c .before .before .before .args .p .0) (walkPages (c .before .before .before .args .self)) ≡ false
 miss c = let s = c .before .before .before in lost (s .args .self) _ (s .good .0) (s .pre) _ _ (c .before .before .frame-of .ensures) (c .if1 .left)
 
-room : (c : tie.Then2) → ltb (length (pagesOf (c .before .before .before .before .args .self))) (c .before .before .before .before .args .m) ≡ true
+room : (c : tie.Then2) → ltb (length (walkPages (c .before .before .before .before .args .self))) (c .before .before .before .before .args .m) ≡ true
 room c = let s = c .before .before .before .before in rw (held-length (s .args .self) _ (s .good .0) (s .pre)) (lt-ltb _ _ (c .if2 .taken))
 
-full : (c : tie.Else2) → ltb (length (pagesOf (c .before .before .before .before .args .self))) (c .before .before .before .before .args .m) ≡ false
+full : (c : tie.Else2) → ltb (length (walkPages (c .before .before .before .before .args .self))) (c .before .before .before .before .args .m) ≡ false
 full c = let s = c .before .before .before .before in rw (held-length (s .args .self) _ (s .good .0) (s .pre)) (le-ltb _ _ (c .if2 .left))
 
 frame-of-requires : tie.Need-frame-of-requires

@@ -8,9 +8,9 @@ use native.Mathlib.Omega.{arith}
 use lib.ListN.{set}
 use lib.Seq.{take-set-lt}
 use Rattle.paging.specs.Calls.{frameLimit}
-use Rattle.paging.specs.Plans.{mem}
+use Rattle.paging.specs.Lists.{mem}
 use Rattle.paging.proofs.PlanRule.{after-hit, after-room, after-full}
-use Rattle.judge.specs.Check.{pagesOf}
+use Rattle.judge.specs.Devices.{walkPages}
 use Rattle.judge.proofs.Walks.{held-length, found, lost, stored-next, held-below}
 use Rattle.judge.proofs.Walk.served.Statement.{statement}
 use Rattle.judge.proofs.Walk.served.Tie as tie
@@ -18,7 +18,7 @@ use Rattle.judge.proofs.Walk.served.Tie as tie
 few : (s : tie.Start) → s .args .self .count ≤ frameLimit
 few s = omega (arith, s .pre .0)
 
-miss : (c : tie.Else1) → mem (c .before .before .before .args .p .0) (pagesOf (c .before .before .before .args .self)) ≡ false
+miss : (c : tie.Else1) → mem (c .before .before .before .args .p .0) (walkPages (c .before .before .before .args .self)) ≡ false
 miss c = let s = c .before .before .before in lost (s .args .self) _ (s .good .0) (few s) _ _ (c .before .before .frame-of .ensures) (c .if1 .left)
 
 -- the page that goes stands in a frame in use
@@ -79,7 +79,7 @@ returns-3 c =
     let h = miss (c .before .before .before .before) in
     let l = held-length (s .args .self) _ (s .good .0) (few s) in (
       take-set-lt _ _ _ _ (below (c .before))
-          ∙ ap (λ (f : ℕ). set (pagesOf (s .args .self)) f (s .args .p .0)) (c .before .frame-of2 .ensures)
+          ∙ ap (λ (f : ℕ). set (walkPages (s .args .self)) f (s .args .p .0)) (c .before .frame-of2 .ensures)
           ∙ sym (after-full _ _ _ _ h (rw l (c .before .before .if2 .left))),
       (rw h, s .pre .0 .1),
     )

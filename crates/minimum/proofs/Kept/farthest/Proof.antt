@@ -5,7 +5,7 @@ use mathlib.Core.Logic.{⊎-elim}
 use Prim.Native.Nat.{ℕ, _≤_, _<_, _-_}
 use native.Mathlib.Omega.{arith}
 use borrow.Author.Needs.{needs}
-use Rattle.minimum.specs.Turns.{pageAt, turnAt}
+use Rattle.minimum.specs.Devices.Turns.{pageAt, turnAt}
 use Rattle.minimum.proofs.Scan.{Behind, behind-first, behind-new, behind-old}
 use Rattle.minimum.proofs.Kept.farthest.Statement.{statement}
 use Rattle.minimum.proofs.Kept.farthest.Tie as tie

@@ -6,7 +6,7 @@ use lib.ListN.{length, getD}
 use lib.Seq.{length-take-le}
 use borrow.Author.Needs.{needs}
 use Rattle.calls.proofs.Search.{place-le}
-use Rattle.minimum.specs.Turns.{pagesOf}
+use Rattle.minimum.specs.Devices.Turns.{keptPages}
 use Rattle.minimum.proofs.Serving.{served-hit, served-room, served-full}
 use Rattle.minimum.proofs.Kept.served.Statement.{statement}
 use Rattle.minimum.proofs.Kept.served.Tie as tie
@@ -47,8 +47,8 @@ place-of-requires c κs = search needs
 cast-t14 : tie.Need-cast-t14
 cast-t14 c =
     let s = call-of c in
-    let held : length (pagesOf (s .args .self)) ≡ s .args .self .count = length-take-le _ _ (omega (arith, s .pre .0 .few, s .pre .0 .wide)) in
-    omega (arith, c .place-of .ensures, place-le (getD (s .args .trace .now) (s .args .t .0) 0) (pagesOf (s .args .self)), s .pre .0 .few, s .pre .2)
+    let held : length (keptPages (s .args .self)) ≡ s .args .self .count = length-take-le _ _ (omega (arith, s .pre .0 .few, s .pre .0 .wide)) in
+    omega (arith, c .place-of .ensures, place-le (getD (s .args .trace .now) (s .args .t .0) 0) (keptPages (s .args .self)), s .pre .0 .few, s .pre .2)
 
 put-requires : tie.Need-put-requires
 put-requires c κs = search needs
