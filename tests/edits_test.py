@@ -1,0 +1,232 @@
+"""Tries tests/edits.py: on made-up edits and logs, each good or bad in one way, and on a small crate that the prover is asked about.
+
+    python3 tests/edits_test.py
+
+Prints the cases that fail, and `N passed, M failed` as its last line.
+"""
+
+import contextlib
+import io
+import pathlib
+import subprocess
+import sys
+import tempfile
+
+import edits
+
+tally = {"passed": 0, "failed": 0}
+
+SOURCE = """
+mod inner;
+pub mod place;
+
+pub const LIMIT: u32 = 9;
+
+pub struct Pair(u32, u32);
+
+impl Pair {
+    // The first.
+    pub fn first(self) -> u32
+        ensures { λ r. ⌜ r ≡ self .0 ⌝ }
+    {
+        self.0
+    }
+
+    fn hidden(self) -> u32 {
+        self.1
+    }
+}
+
+fn seven() -> u32
+    ensures { λ r. ⌜ r ≡ 7 ⌝ }
+{
+    7
+}
+
+pub fn eight() -> u32
+    ensures { λ r. ⌜ r ≡ 8 ⌝ }
+{
+    seven() + 1
+}
+"""
+
+MODULE = """
+pub fn nine() -> u32
+    ensures { λ r. ⌜ r ≡ 9 ⌝ }
+{
+    9
+}
+"""
+
+INNER = """
+pub fn ten() -> u32 {
+    10
+}
+
+impl Pair {
+    pub fn second(self) -> u32 {
+        self.1
+    }
+}
+"""
+
+CONTRACTS = """
+## `small`: numbers
+
+| function | promise | shuts out | edits |
+|---|---|---|---|
+| `Pair::first(self)` | the first | the second | `a`, `b` |
+| `Pair::second(self)` | the second | the first | `a`, `b` |
+| `eight()` | 8 | 9 | `a`, and `large`'s `c` |
+| `nine()` | 9 | 8 | `a`, `b` |
+"""
+
+
+def case(name, right):
+    tally["passed" if right else "failed"] += 1
+    if not right:
+        print(f"failed: {name}")
+
+
+def quietly(work, *arguments):
+    with contextlib.redirect_stdout(io.StringIO()) as shown:
+        work(*arguments)
+    return shown.getvalue()
+
+
+# Made-up edits and logs
+
+SEVEN = ("seven", "src/lib.rt", "    7", "    6")
+EIGHT = ("eight", "src/lib.rt", "seven() + 1", "seven() + 2")
+NINE = ("nine", "src/place.rt", "    9", "    8")
+FIRST = ("first", "src/lib.rt", "self.0", "self.1")
+LIMIT = ("limit", "src/lib.rt", "u32 = 9", "u32 = 8")
+LAW = ("law", "specs/Law.antt", "law = 1", "law = 2")
+
+
+def program(change, *more):
+    label, file, old, new = change
+    return "\n".join([f"# {label}: wrong.", *more, f"file: {file}", f"old: {old}", f"new: {new}", ""])
+
+
+def error(file, name, message="the two types differ"):
+    return f"ROOT/target/must-fail/small/FILE/{file}:8:13: error: `{name}`: {message}"
+
+
+def proof(function, name="returns", message="the two types differ"):
+    return error(f"proofs/{function}/Proof.antt", name, message)
+
+
+def note(file, text, begins):
+    line = [s.startswith(begins) for s in text.splitlines()].index(True) + 1
+    return f"note: ROOT/target/must-fail/small/FILE/{file}:{line}:5: it is not proved that what the function ensures holds when it returns (`returns`)"
+
+
+def judged(edit, log, name="programs_1"):
+    """The labels that pass and those that fail."""
+    with tempfile.TemporaryDirectory() as folder:
+        root = pathlib.Path(folder)
+        crate = root / "crates" / "small"
+        write(crate / "src" / "lib.rt", SOURCE)
+        write(crate / "src" / "place.rt", MODULE)
+        write(crate / "specs" / "Law.antt", "law = 1\n")
+        write(crate / "must-fail" / f"{name}.edit", edit)
+        if log is not None:
+            write(root / "target" / "must-fail" / "small" / name / ".log", log.replace("ROOT", folder).replace("FILE", name))
+        outcomes = edits.judged(root, crate, crate / "must-fail" / f"{name}.edit")
+    failed = [label for label, outcome in outcomes if isinstance(outcome, edits.Wrong)]
+    return [label for label, _ in outcomes if label not in failed], failed
+
+
+def write(path, text):
+    path.parent.mkdir(parents=True, exist_ok=True)
+    path.write_text(text)
+
+
+def lines(*parts):
+    return "\n".join(parts)
+
+
+def programs_pass():
+    four = program(SEVEN) + program(EIGHT) + program(NINE) + program(FIRST)
+    log = lines(proof("seven"), proof("eight"), proof("place/nine"), proof("Pair/first"))
+    case("four refused by themselves", judged(four, log) == (["seven", "eight", "nine", "first"], []))
+    case("a note in a function without proof file", judged(program(SEVEN), note("src/lib.rt", SOURCE, "fn seven")) == (["seven"], []))
+    case("a note in a module", judged(program(NINE), note("src/place.rt", MODULE, "pub fn nine")) == (["nine"], []))
+    case("a lone program without label", judged(program(SEVEN)[1:], proof("seven"), "alone") == (["alone"], []))
+    law = program(LAW, "breaks: law-holds")
+    case("a definition that breaks a law", judged(law, error("proofs/Laws.antt", "law-holds"), "law") == (["law"], []))
+    limit = program(LIMIT, "breaks: place::nine")
+    case("a const that breaks a function", judged(limit, proof("place/nine"), "limit") == (["limit"], []))
+    swapped = lines("# swap: swapped.", "file: src/lib.rt", "old: seven() + 1", "new: @ + 1", "old: @", "new: eight()")
+    case("a text put in between", judged(swapped, proof("eight")) == (["swap"], []))
+
+
+def harmless_fails():
+    three = program(SEVEN) + program(EIGHT) + program(NINE)
+    log = lines(proof("seven"), proof("eight"), "fn small::place::nine: proved")
+    case("a harmless one among wrong ones", judged(three, log) == (["seven", "eight"], ["nine"]))
+    follows = lines(proof("seven"), proof("eight", "eight-spec", "`close` was not admitted, so this cannot be checked"), proof("place/nine"))
+    case("an error that only follows", judged(three, follows) == (["seven", "nine"], ["eight"]))
+    case("a note in another function", judged(program(SEVEN) + program(FIRST), note("src/lib.rt", SOURCE, "fn seven")) == (["seven"], ["first"]))
+    case("an error in another function", judged(program(FIRST), proof("first")) == ([], ["first"]))
+    case("an error in a law above", judged(program(SEVEN), error("proofs/Laws.antt", "law-holds")) == ([], ["seven"]))
+    law = program(LAW, "breaks: law-holds")
+    case("a law that only follows", judged(law, error("proofs/Laws.antt", "law-holds", "`x` was not admitted"), "law") == ([], ["law"]))
+    case("another law", judged(law, error("proofs/Laws.antt", "law-again"), "law") == ([], ["law"]))
+    case("a step of a proof isn't a law", judged(program(LAW, "breaks: returns"), proof("seven"), "law") == ([], ["law"]))
+
+
+def bad_form_fails():
+    misfit = lines(proof("seven"), proof("seven", "add-i", "`tie` has no `Need-add-i` that can be named from here"))
+    case("a proof that no longer fits", judged(program(SEVEN), misfit) == ([], ["seven"]))
+    case("no log", judged(program(SEVEN), None) == ([], ["seven"]))
+    case("no `breaks:`", judged(program(LAW), error("proofs/Laws.antt", "law-holds"), "law") == ([], ["law"]))
+    case("no `breaks:` of a const", judged(program(LIMIT), proof("place/nine"), "limit") == ([], ["limit"]))
+    beside = program(SEVEN) + program(LAW, "breaks: law-holds")
+    case("a definition beside a function", judged(beside, lines(proof("seven"), error("proofs/Laws.antt", "law-holds"))) == (["seven"], ["law"]))
+    twice = program(SEVEN) + program(("again", "src/lib.rt", "    6", "    5"))
+    case("a function changed twice", judged(twice, proof("seven")) == ([], ["seven", "again"]))
+    contract = program(("seven", "src/lib.rt", "r ≡ 7", "r ≡ 6")) + program(EIGHT)
+    case("a contract beside a caller", judged(contract, lines(proof("seven"), proof("eight"))) == (["seven"], ["eight"]))
+    case("a text that isn't there", judged(program(("x", "src/lib.rt", "no such text", "x")), proof("eight")) == ([], ["x"]))
+    case("no label in a shared file", judged(program(SEVEN).replace("seven: ", "", 1), proof("seven")) == ([], ["programs_1.edit"]))
+    case("nothing replaced", judged("# seven: wrong.\n", proof("seven")) == ([], ["seven"]))
+    case("an empty file", judged("", proof("seven"), "empty") == ([], ["empty"]))
+
+
+# The table of contracts
+
+
+def contracts_failed(text, labels):
+    with tempfile.TemporaryDirectory() as folder:
+        root = pathlib.Path(folder)
+        write(root / "crates" / "small" / "src" / "lib.rt", SOURCE)
+        write(root / "crates" / "small" / "src" / "place.rt", MODULE)
+        write(root / "crates" / "small" / "src" / "inner.rt", INNER)
+        write(root / "docs" / "CONTRACTS.md", text)
+        count = edits.Tally()
+        quietly(edits.judge_contracts, root, labels, count)
+    return count.passed, count.failed
+
+
+def contracts():
+    labels = {"small": {"a", "b"}, "large": {"c"}}
+    case("every row is right", contracts_failed(CONTRACTS, labels) == (4, 0))
+    case("a label that isn't there", contracts_failed(CONTRACTS, labels | {"small": {"a"}}) == (1, 3))
+    case("a label of another crate", contracts_failed(CONTRACTS, {"small": {"a", "b", "c"}}) == (3, 1))
+    case("one label only", contracts_failed(CONTRACTS.replace("`a`, and", "and"), labels) == (3, 1))
+    case("one label twice", contracts_failed(CONTRACTS.replace("8 | `a`, `b`", "8 | `a`, `a`"), labels) == (3, 1))
+    case("a function without a row", contracts_failed(CONTRACTS.replace("`eight()`", "`eleven()`"), labels) == (4, 1))
+    case("a method of a private module without a row", contracts_failed(CONTRACTS.replace("::second", "::third"), labels) == (4, 1))
+
+
+def main():
+    for group in (programs_pass, harmless_fails, bad_form_fails, contracts):
+        group()
+    print(f"{tally['passed']} passed, {tally['failed']} failed")
+    return 1 if tally["failed"] else 0
+
+
+if __name__ == "__main__":
+    sys.exit(main())
