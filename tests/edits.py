@@ -6,7 +6,7 @@
 A file `programs_N.edit` holds several wrong programs, each headed by a line `# label: what is wrong.`; any other file holds one, and its name is the label.
 - A replacement inside a function of src/, its contract included, asks for an error in that function's own proof or, where it has no proof file, for a note in it that a fact is not proved.
 - A replacement elsewhere (a definition, a statement, a const) stands alone in its file and says by a line `breaks: NAME` which law or function has such an error; a function is named as in the log, without the crate.
-An error that only follows from another ("was not admitted") doesn't count. A proof that no longer fits the code ("has no `Need-..`") shows nothing, so its program fails.
+An error that only follows from another ("was not admitted") doesn't count. A proof that no longer fits the code shows nothing, so its program fails: one that names a part that is gone ("has no `Need-..`"), whose parts are others than are put together (`NAME-spec`), or whose loop has other locals (`Inv-..`, `μ-..`).
 One error never serves two programs: a file changes a function once, and not beside a change of the contract of what it calls.
 
 Then docs/CONTRACTS.md: each row of its tables names two or more wrong programs that there are, and each public function has a row. Not where crates are named: then only their edits are judged.
@@ -173,10 +173,16 @@ def own_error(errors, function):
     """The first error at a fact of the function's own: in its proof, or a note in its lines."""
     proof = f"proofs/{function.name.replace('::', '/')}/Proof.antt"
     own = [e for e in errors if e.file == proof]
-    if any(MISFIT in e.message for e in own):
+    if any(is_misfit(e, function) for e in own):
         raise Wrong(f"the proof of {function.name} no longer fits the code")
     own += [e for e in errors if e.file == function.file and function.first <= e.line <= function.last]
     return first_fact(own, function.name)
+
+
+def is_misfit(error, function):
+    whole = function.short().replace("_", "-") + "-spec"
+    frame = error.name == whole or error.name.startswith(("Inv-", "μ-"))
+    return MISFIT in error.message or (frame and FOLLOWS not in error.message)
 
 
 def law_error(errors, name):

@@ -180,6 +180,9 @@ def harmless_fails():
 def bad_form_fails():
     misfit = lines(proof("seven"), proof("seven", "add-i", "`tie` has no `Need-add-i` that can be named from here"))
     case("a proof that no longer fits", judged(program(SEVEN), misfit) == ([], ["seven"]))
+    parts = lines(proof("seven"), proof("seven", "seven-spec", "expected type `tie.Need-add-result`, but this has type `tie.Need-returns`"))
+    case("a proof with other parts", judged(program(SEVEN), parts) == ([], ["seven"]))
+    case("a loop with other locals", judged(program(SEVEN), lines(proof("seven"), proof("seven", "Inv-loop"))) == ([], ["seven"]))
     case("no log", judged(program(SEVEN), None) == ([], ["seven"]))
     case("no `breaks:`", judged(program(LAW), error("proofs/Laws.antt", "law-holds"), "law") == ([], ["law"]))
     case("no `breaks:` of a const", judged(program(LIMIT), proof("place/nine"), "limit") == ([], ["limit"]))
@@ -221,8 +224,66 @@ def contracts():
     case("a method of a private module without a row", contracts_failed(CONTRACTS.replace("::second", "::third"), labels) == (4, 1))
 
 
+# A small crate that the prover is asked about
+
+PROVED = """
+ghost use mathlib.Core.Path.{_≡_};
+
+pub fn seven() -> u32
+    ensures { λ r. ⌜ r ≡ 7 ⌝ }
+{
+    7
+}
+
+pub fn eight() -> u32
+    ensures { λ r. ⌜ r ≡ 8 ⌝ }
+{
+    8
+}
+
+pub fn nine() -> u32
+    ensures { λ r. ⌜ r ≡ 9 ⌝ }
+{
+    9
+}
+"""
+
+EIGHT_PROOF = """
+use borrow.Author.Needs.{needs}
+use Rattle.small.proofs.eight.Statement.{statement}
+use Rattle.small.proofs.eight.Tie as tie
+
+returns : tie.Need-returns
+returns c = search needs
+
+pub eight-spec : {M : Type 1} → statement M
+eight-spec = tie.close (tie.spec returns)
+"""
+
+
+def prover():
+    """`seven` has no proof file and `eight` has one; a sum in the place of 8 leaves it right, but its proof no longer fits."""
+    wrong = program(SEVEN) + program(("eight", "src/lib.rt", "    8", "    5"))
+    harmless = program(("nine", "src/lib.rt", "    9", "    3 * 3"))
+    with tempfile.TemporaryDirectory() as folder:
+        root = pathlib.Path(folder)
+        crate = root / "crates" / "small"
+        write(root / "crates.txt", "small:\n")
+        write(crate / "src" / "lib.rt", PROVED)
+        write(crate / "proofs" / "eight" / "Proof.antt", EIGHT_PROOF)
+        write(crate / "must-fail" / "programs_1.edit", wrong + harmless)
+        write(crate / "must-fail" / "sum.edit", program(("sum", "src/lib.rt", "    8", "    4 + 4")))
+        done = subprocess.run(["rt", "must-fail"], cwd=root, capture_output=True, text=True)
+        shown = quietly(edits.judge_edits, root, edits.Tally())
+    case("the prover refuses both files", done.returncode == 0 and done.stdout.count(": refused, as it must be") == 2)
+    case("wrong with no proof file", "small/seven: refused at src/lib.rt:4" in shown)
+    case("wrong with a proof file", "small/eight: refused at proofs/eight/Proof.antt:7" in shown)
+    case("harmless among wrong ones", "FAILED small/nine: nine has no error of its own" in shown)
+    case("harmless in another shape", "FAILED small/sum: the proof of eight no longer fits the code" in shown)
+
+
 def main():
-    for group in (programs_pass, harmless_fails, bad_form_fails, contracts):
+    for group in (programs_pass, harmless_fails, bad_form_fails, contracts, prover):
         group()
     print(f"{tally['passed']} passed, {tally['failed']} failed")
     return 1 if tally["failed"] else 0
