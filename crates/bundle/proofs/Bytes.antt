@@ -17,7 +17,8 @@ use Rattle.paging.proofs.Writing.{laid-whole}
 use Rattle.calls.proofs.Search.{found-mem, lost-mem}
 use Rattle.words.specs.Bytes.{wordAt, wordsAt}
 use Rattle.words.proofs.Bytes.{length-words}
-use Rattle.bundle.specs.Bytes.{bytesOf, bytesIn, section, over}
+use Rattle.bundle.specs.Bytes.{bytesOf, bytesIn, section}
+use Rattle.bundle.specs.Devices.Over.{over}
 
 -- ---- how many
 

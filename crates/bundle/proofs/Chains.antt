@@ -22,10 +22,10 @@ use Rattle.paging.proofs.Writing.{laid-whole}
 use Rattle.calls.specs.Chain.{andThen, lentGate}
 use Rattle.calls.proofs.Chain.{gate-append}
 use Rattle.words.specs.Bytes.{wordAt, wordsAt}
-use Rattle.bundle.specs.Bytes.{section, over}
-use Rattle.bundle.specs.Reading.{requestCount, planPlace, planCount, fileEnd, requestsIn, planIn, planFits, headTests, formTests, sizeTests, valueTests, readTests, sizesOf, answerBy, readOf, requestsLeft, planLeft}
-use Rattle.bundle.specs.Writing as writing
-use Rattle.bundle.specs.Writing.{fileOf, callTests, writeTests, writeOf, roomLeft}
+use Rattle.bundle.specs.Bytes.{section}
+use Rattle.bundle.specs.Devices.Over.{over}
+use Rattle.bundle.specs.Reading.{requestCount, planPlace, planCount, fileEnd, fileRequests, filePlan, planFits, headTests, formTests, sizeTests, valueTests, readTests, sizesOf, sizesBy, readOf, requestsLeft, planLeft}
+use Rattle.bundle.specs.Writing.{fileOf, callTests, writeTests, bytesBy, writeOf, roomLeft}
 use Rattle.bundle.specs.declared.ReadAnswer.the-variants.{Bundle, Refused}
 use Rattle.bundle.specs.declared.WriteAnswer.the-variants as wrote
 use Rattle.words.proofs.Bytes.{length-words}
@@ -91,25 +91,25 @@ module _ (file : List ℕ) where
   -- ---- the values of a file in form
 
   abbrev markPart : List Test
-  markPart = test (marked (requestsIn file)) (MarkRequested (16 + 4 * firstMark (requestsIn file))) ∷ []
+  markPart = test (marked (fileRequests file)) (MarkRequested (16 + 4 * firstMark (fileRequests file))) ∷ []
 
   pub value-stops : (refusal : Refusal) → gate (sizeTests (wordAt file 4) (wordAt file 8) 4 8) ≡ No refusal → No refusal ≡ gate (valueTests file)
   unfolding valueTests
   value-stops refusal e = stops (sizeTests (wordAt file 4) (wordAt file 8) 4 8) markPart refusal e
 
   module _ (o : gate (sizeTests (wordAt file 4) (wordAt file 8) 4 8) ≡ Open) where
-    pub value-marked : firstMark (requestsIn file) < requestCount file → No (MarkRequested (16 + 4 * firstMark (requestsIn file))) ≡ gate (valueTests file)
-    unfolding gate valueTests requestsIn
+    pub value-marked : firstMark (fileRequests file) < requestCount file → No (MarkRequested (16 + 4 * firstMark (fileRequests file))) ≡ gate (valueTests file)
+    unfolding gate valueTests fileRequests
     value-marked h =
-        let e : marked (requestsIn file) ≡ true = mark-found (requestsIn file) (rw (length-words file 16 (requestCount file)) h) in
-        sym (ap (λ (b : Bool). pick b (No (MarkRequested (16 + 4 * firstMark (requestsIn file)))) Open) e)
+        let e : marked (fileRequests file) ≡ true = mark-found (fileRequests file) (rw (length-words file 16 (requestCount file)) h) in
+        sym (ap (λ (b : Bool). pick b (No (MarkRequested (16 + 4 * firstMark (fileRequests file)))) Open) e)
         ∙ goes-on (sizeTests (wordAt file 4) (wordAt file 8) 4 8) markPart o
 
-    pub value-open : requestCount file ≤ firstMark (requestsIn file) → Open ≡ gate (valueTests file)
-    unfolding gate valueTests requestsIn
+    pub value-open : requestCount file ≤ firstMark (fileRequests file) → Open ≡ gate (valueTests file)
+    unfolding gate valueTests fileRequests
     value-open h =
-        let e : marked (requestsIn file) ≡ false = mark-lost (requestsIn file) (rw (length-words file 16 (requestCount file)) h) in
-        sym (ap (λ (b : Bool). pick b (No (MarkRequested (16 + 4 * firstMark (requestsIn file)))) Open) e)
+        let e : marked (fileRequests file) ≡ false = mark-lost (fileRequests file) (rw (length-words file 16 (requestCount file)) h) in
+        sym (ap (λ (b : Bool). pick b (No (MarkRequested (16 + 4 * firstMark (fileRequests file)))) Open) e)
         ∙ goes-on (sizeTests (wordAt file 4) (wordAt file 8) 4 8) markPart o
 
 -- what 9, 10 and 11 leave
@@ -168,7 +168,7 @@ pub record Accepted (file : List ℕ) (a b : ℕ) : Type 0 where
   pub frames : outside (wordAt file 4) ≡ false
   pub plan-frames : outside (wordAt file 8) ≡ false
   pub above : ltb (wordAt file 4) (wordAt file 8) ≡ false
-  pub unmarked : marked (requestsIn file) ≡ false
+  pub unmarked : marked (fileRequests file) ≡ false
   pub room : requestCount file ≤ a
   pub plan-room : planCount file ≤ b
 
@@ -190,21 +190,21 @@ module _ (file requests plan : List ℕ) where
       → (Refused refusal ≡ readOf file (length requests) (length plan)) × (requests ≡ requestsLeft file requests (length plan)) × (plan ≡ planLeft file (length requests) plan)
   unfolding readOf requestsLeft planLeft
   read-refused refusal e = (
-    sym (ap (λ (g : Gate). answerBy g (sizesOf file)) e),
-    sym (ap (λ (g : Gate). leftBy g (requestsIn file) requests) e),
-    sym (ap (λ (g : Gate). leftBy g (planIn file) plan) e),
+    sym (ap (λ (g : Gate). sizesBy g (sizesOf file)) e),
+    sym (ap (λ (g : Gate). leftBy g (fileRequests file) requests) e),
+    sym (ap (λ (g : Gate). leftBy g (filePlan file) plan) e),
   )
 
   pub read-done : gate (readTests file (length requests) (length plan)) ≡ Open
       → (Bundle (sizesOf file) ≡ readOf file (length requests) (length plan))
       × (wordsAt file 16 (requestCount file) ++ drop (requestCount file) requests ≡ requestsLeft file requests (length plan))
       × (wordsAt file (planPlace file + 4) (planCount file) ++ drop (planCount file) plan ≡ planLeft file (length requests) plan)
-  unfolding readOf requestsLeft planLeft requestsIn planIn
+  unfolding readOf requestsLeft planLeft fileRequests filePlan
   read-done o =
       let d = accepted file (length requests) (length plan) o in (
-        sym (ap (λ (g : Gate). answerBy g (sizesOf file)) o),
-        sym (ap (λ (g : Gate). leftBy g (requestsIn file) requests) o ∙ laid-words file 16 (requestCount file) requests (d .room)),
-        sym (ap (λ (g : Gate). leftBy g (planIn file) plan) o ∙ laid-words file (planPlace file + 4) (planCount file) plan (d .plan-room)),
+        sym (ap (λ (g : Gate). sizesBy g (sizesOf file)) o),
+        sym (ap (λ (g : Gate). leftBy g (fileRequests file) requests) o ∙ laid-words file 16 (requestCount file) requests (d .room)),
+        sym (ap (λ (g : Gate). leftBy g (filePlan file) plan) o ∙ laid-words file (planPlace file + 4) (planCount file) plan (d .plan-room)),
       )
 
 -- ---- a writing
@@ -257,7 +257,7 @@ module _ (n m : ℕ) (trace plan room : List ℕ) where
       → (wrote.Refused refusal ≡ writeOf n m trace plan (length room)) × (room ≡ roomLeft n m trace plan room)
   unfolding writeOf roomLeft
   refused-by refusal e = (
-    sym (ap (λ (g : Gate). writing.answerBy g (length (fileOf n m trace plan))) e),
+    sym (ap (λ (g : Gate). bytesBy g (length (fileOf n m trace plan))) e),
     sym (ap (λ (g : Gate). leftBy g (fileOf n m trace plan) room) e),
   )
 
@@ -280,7 +280,7 @@ module _ (n m : ℕ) (trace plan room : List ℕ) where
         let e : gate (writeTests n m trace plan (length room)) ≡ Open =
         sym (goes-on (callTests n m trace (length plan)) roomPart o) ∙ rw (le-ltb _ _ h)
         in (
-          sym (ap (λ (g : Gate). writing.answerBy g (length (fileOf n m trace plan))) e),
+          sym (ap (λ (g : Gate). bytesBy g (length (fileOf n m trace plan))) e),
           sym (ap (λ (g : Gate). leftBy g (fileOf n m trace plan) room) e ∙ laid-whole (fileOf n m trace plan) room h),
         )
 

@@ -14,15 +14,14 @@ use lib.ListN.{length, take, drop}
 use lib.Seq.{take-at}
 use borrow.Author.Tests.{le-ltb, eq-eqb, ltb-false}
 use Rattle.paging.specs.Lists.{pick}
-use Rattle.paging.specs.Calls.{requestLimit, test, gate, outside, marked, traceTests}
+use Rattle.paging.specs.Calls.{frameLimit, requestLimit, test, gate, outside, marked, traceTests}
 use Rattle.paging.specs.declared.Gate.{Gate}
 use Rattle.paging.specs.declared.Gate.the-variants.{Open, No}
 use Rattle.paging.specs.declared.Refusal.the-variants.{LentTooShort}
 use Rattle.words.specs.Bytes.{wordAt, wordsAt}
 use Rattle.bundle.specs.Bytes.{bytesIn}
-use Rattle.bundle.specs.Reading.{requestCount, planPlace, planCount, fileEnd, requestsIn, planIn, planFits, formTests, sizeTests, valueTests, readTests, sizesOf, answerBy, readOf, requestsLeft, planLeft}
-use Rattle.bundle.specs.Writing as writing
-use Rattle.bundle.specs.Writing.{fileOf, callTests, writeTests, writeOf, roomLeft}
+use Rattle.bundle.specs.Reading.{requestCount, planPlace, planCount, fileEnd, fileRequests, filePlan, planFits, formTests, sizeTests, valueTests, readTests, sizesOf, sizesBy, readOf, requestsLeft, planLeft}
+use Rattle.bundle.specs.Writing.{fileOf, callTests, writeTests, bytesBy, writeOf, roomLeft}
 use Rattle.bundle.specs.declared.Sizes.{Sizes}
 use Rattle.bundle.specs.declared.ReadAnswer.the-variants.{Bundle}
 use Rattle.bundle.specs.declared.WriteAnswer.the-variants.{Bytes}
@@ -68,7 +67,7 @@ pub bundle-open : (file : List ℕ) (a b : ℕ) (sizes : Sizes) → readOf file 
 unfolding readOf
 bundle-open file a b sizes e = go (gate (readTests file a b)) refl e
   where
-    go : (g : Gate) → gate (readTests file a b) ≡ g → answerBy g (sizesOf file) ≡ Bundle sizes → (gate (readTests file a b) ≡ Open) × (sizesOf file ≡ sizes)
+    go : (g : Gate) → gate (readTests file a b) ≡ g → sizesBy g (sizesOf file) ≡ Bundle sizes → (gate (readTests file a b) ≡ Open) × (sizesOf file ≡ sizes)
     go Open q e = (q, cc)
     go (No refusal) q e = absurd (let k : _≡_ {A = ℕ} 0 1 = cc in omega arith)
 
@@ -108,18 +107,18 @@ module _ (n m : ℕ) (trace plan : List ℕ) (o : gate (callTests n m trace (len
   plan-fits = met _ (passes (callTests n m trace (length plan)) 6 o (omega arith))
 
   small-n : (n < 4294967296) × (m < 4294967296)
-  small-n = go (ltb n 1) (ltb 256 n) (ltb n m) refl refl refl outside-n m-below
+  small-n = go (ltb n 1) (ltb frameLimit n) (ltb n m) refl refl refl outside-n m-below
     where
-      go : (a b c : Bool) → ltb n 1 ≡ a → ltb 256 n ≡ b → ltb n m ≡ c → pick a true b ≡ false → c ≡ false → (n < 4294967296) × (m < 4294967296)
+      go : (a b c : Bool) → ltb n 1 ≡ a → ltb frameLimit n ≡ b → ltb n m ≡ c → pick a true b ≡ false → c ≡ false → (n < 4294967296) × (m < 4294967296)
       go true b c p q r e f = absurd (let k : _≡_ {A = ℕ} 0 1 = cc in omega arith)
       go false true c p q r e f = absurd (let k : _≡_ {A = ℕ} 0 1 = cc in omega arith)
       go false false true p q r e f = absurd (let k : _≡_ {A = ℕ} 0 1 = cc in omega arith)
-      go false false false p q r e f = let h : n ≤ 256 = ltb-false 256 n q in let k : m ≤ n = ltb-false n m r in (omega arith, omega arith)
+      go false false false p q r e f = let h : n ≤ frameLimit = ltb-false frameLimit n q in let k : m ≤ n = ltb-false n m r in (omega arith, omega arith)
 
   module _ (wt : Below 4294967296 trace) (wp : Below 4294967296 plan) where
     front-words : wordsAt (fileOf n m trace plan) 0 (length (2 ∷ n ∷ m ∷ length trace ∷ trace)) ≡ 2 ∷ n ∷ m ∷ length trace ∷ trace
     front-words =
-        let t : length trace ≤ 8000 = call-requests n m trace (length plan) o in
+        let t : length trace ≤ requestLimit = call-requests n m trace (length plan) o in
         let small : length trace < 4294967296 = omega arith in
         let two : 2 < 4294967296 = omega arith in
         rw (file-words n m trace plan)
@@ -149,12 +148,12 @@ module _ (n m : ℕ) (trace plan : List ℕ) (o : gate (callTests n m trace (len
     same-count : planCount (fileOf n m trace plan) ≡ length plan
     same-count = ap (λ (k : ℕ). wordAt (fileOf n m trace plan) (16 + 4 * k)) (front-parts .3) ∙ back-parts .0
 
-    pub same-requests : requestsIn (fileOf n m trace plan) ≡ trace
-    unfolding requestsIn
+    pub same-requests : fileRequests (fileOf n m trace plan) ≡ trace
+    unfolding fileRequests
     same-requests = ap (wordsAt (fileOf n m trace plan) 16) (front-parts .3) ∙ front-parts .4
 
-    pub same-plan : planIn (fileOf n m trace plan) ≡ plan
-    unfolding planIn
+    pub same-plan : filePlan (fileOf n m trace plan) ≡ plan
+    unfolding filePlan
     same-plan = ap₂ (λ (t k : ℕ). wordsAt (fileOf n m trace plan) (16 + 4 * t + 4) k) (front-parts .3) same-count ∙ back-parts .1
 
     written-accepted : (a b : ℕ) → length trace ≤ a → length plan ≤ b → Accepted (fileOf n m trace plan) a b
@@ -185,7 +184,7 @@ module _ (n m : ℕ) (trace plan : List ℕ) (o : gate (callTests n m trace (len
         → (readOf (fileOf n m trace plan) (length requests) (length lent) ≡ Bundle (record { n = n; m = m; requests = length trace; planned = length plan }))
         × (requestsLeft (fileOf n m trace plan) requests (length lent) ≡ trace ++ drop (length trace) requests)
         × (planLeft (fileOf n m trace plan) (length requests) lent ≡ plan ++ drop (length plan) lent)
-    unfolding requestsIn planIn
+    unfolding fileRequests filePlan
     read-back requests lent ha hb =
         let g = accepting (fileOf n m trace plan) (length requests) (length lent) (written-accepted (length requests) (length lent) ha hb) in
         let d = read-done (fileOf n m trace plan) requests lent g in
@@ -203,7 +202,7 @@ bytes-open : (n m k : ℕ) (trace plan : List ℕ) (room : ℕ) → writeOf n m 
 unfolding writeOf
 bytes-open n m k trace plan room e = go (gate (writeTests n m trace plan room)) refl e
   where
-    go : (g : Gate) → gate (writeTests n m trace plan room) ≡ g → writing.answerBy g (length (fileOf n m trace plan)) ≡ Bytes k
+    go : (g : Gate) → gate (writeTests n m trace plan room) ≡ g → bytesBy g (length (fileOf n m trace plan)) ≡ Bytes k
         → (gate (writeTests n m trace plan room) ≡ Open) × (length (fileOf n m trace plan) ≡ k)
     go Open q e = (q, cc)
     go (No refusal) q e = absurd (let z : _≡_ {A = ℕ} 0 1 = cc in omega arith)
@@ -242,42 +241,42 @@ reading-what-was-written n m k trace plan room file requests lent wt wp e f ha h
 -- ---- writing what was read
 
 module _ (file : List ℕ) (a b : ℕ) (d : Accepted file a b) where
-  again-open : gate (callTests (wordAt file 4) (wordAt file 8) (requestsIn file) (length (planIn file))) ≡ Open
-  unfolding gate callTests sizeTests traceTests requestsIn planIn
+  again-open : gate (callTests (wordAt file 4) (wordAt file 8) (fileRequests file) (length (filePlan file))) ≡ Open
+  unfolding gate callTests sizeTests traceTests fileRequests filePlan
   again-open =
-      let t : length (requestsIn file) ≡ requestCount file = length-words file 16 (requestCount file) in
-      let p : length (planIn file) ≡ planCount file = length-words file (planPlace file + 4) (planCount file) in
-      let r : length (requestsIn file) ≤ requestLimit = rw t (d .form .requests) in
-      let f : planFits (length (requestsIn file)) (length (planIn file)) ≡ true = ap₂ planFits t p ∙ d .form .fits in
-      rw (d .frames, d .plan-frames, d .above, le-ltb requestLimit (length (requestsIn file)) r, d .unmarked, f)
+      let t : length (fileRequests file) ≡ requestCount file = length-words file 16 (requestCount file) in
+      let p : length (filePlan file) ≡ planCount file = length-words file (planPlace file + 4) (planCount file) in
+      let r : length (fileRequests file) ≤ requestLimit = rw t (d .form .requests) in
+      let f : planFits (length (fileRequests file)) (length (filePlan file)) ≡ true = ap₂ planFits t p ∙ d .form .fits in
+      rw (d .frames, d .plan-frames, d .above, le-ltb requestLimit (length (fileRequests file)) r, d .unmarked, f)
 
-  all-words : wordAt file 0 ∷ wordAt file 4 ∷ wordAt file 8 ∷ requestCount file ∷ requestsIn file ++ (planCount file ∷ planIn file)
+  all-words : wordAt file 0 ∷ wordAt file 4 ∷ wordAt file 8 ∷ requestCount file ∷ fileRequests file ++ (planCount file ∷ filePlan file)
       ≡ wordsAt file 0 (suc (suc (suc (suc (requestCount file)))) + suc (planCount file))
-  unfolding wordsAt requestsIn planIn
+  unfolding wordsAt fileRequests filePlan
   all-words =
       let e : planPlace file ≡ 0 + 4 * suc (suc (suc (suc (requestCount file)))) = omega arith in
       ap (λ (k : ℕ). wordsAt file 0 (suc (suc (suc (suc (requestCount file))))) ++ wordsAt file k (suc (planCount file))) e
       ∙ sym (words-append file 0 (suc (suc (suc (suc (requestCount file))))) (suc (planCount file)))
 
-  same-bytes : Below 256 file → fileOf (wordAt file 4) (wordAt file 8) (requestsIn file) (planIn file) ≡ file
-  unfolding requestsIn planIn
+  same-bytes : Below 256 file → fileOf (wordAt file 4) (wordAt file 8) (fileRequests file) (filePlan file) ≡ file
+  unfolding fileRequests filePlan
   same-bytes s =
       let l : length file ≡ 4 * (suc (suc (suc (suc (requestCount file)))) + suc (planCount file)) = omega (arith, d .form .whole) in
-      file-words (wordAt file 4) (wordAt file 8) (requestsIn file) (planIn file)
-      ∙ ap₂ (λ (i j : ℕ). bytesIn (2 ∷ wordAt file 4 ∷ wordAt file 8 ∷ i ∷ requestsIn file) ++ bytesIn (j ∷ planIn file))
+      file-words (wordAt file 4) (wordAt file 8) (fileRequests file) (filePlan file)
+      ∙ ap₂ (λ (i j : ℕ). bytesIn (2 ∷ wordAt file 4 ∷ wordAt file 8 ∷ i ∷ fileRequests file) ++ bytesIn (j ∷ filePlan file))
       (length-words file 16 (requestCount file))
       (length-words file (planPlace file + 4) (planCount file))
-      ∙ ap (λ (z : ℕ). bytesIn (z ∷ wordAt file 4 ∷ wordAt file 8 ∷ requestCount file ∷ requestsIn file) ++ bytesIn (planCount file ∷ planIn file)) (sym (d .form .sizes))
-      ∙ sym (bytes-append (wordAt file 0 ∷ wordAt file 4 ∷ wordAt file 8 ∷ requestCount file ∷ requestsIn file) (planCount file ∷ planIn file))
+      ∙ ap (λ (z : ℕ). bytesIn (z ∷ wordAt file 4 ∷ wordAt file 8 ∷ requestCount file ∷ fileRequests file) ++ bytesIn (planCount file ∷ filePlan file)) (sym (d .form .sizes))
+      ∙ sym (bytes-append (wordAt file 0 ∷ wordAt file 4 ∷ wordAt file 8 ∷ requestCount file ∷ fileRequests file) (planCount file ∷ filePlan file))
       ∙ ap bytesIn all-words
       ∙ bytes-back (suc (suc (suc (suc (requestCount file)))) + suc (planCount file)) file s l
 
 -- where a reading is not refused, the sizes are the file's, and so are the words in front of both lists
 pub read-words : (file requests lent : List ℕ) (sizes : Sizes) → readOf file (length requests) (length lent) ≡ Bundle sizes
     → (sizesOf file ≡ sizes)
-    × (take (sizes .requests) (requestsLeft file requests (length lent)) ≡ requestsIn file)
-    × (take (sizes .planned) (planLeft file (length requests) lent) ≡ planIn file)
-unfolding requestsIn planIn
+    × (take (sizes .requests) (requestsLeft file requests (length lent)) ≡ fileRequests file)
+    × (take (sizes .planned) (planLeft file (length requests) lent) ≡ filePlan file)
+unfolding fileRequests filePlan
 read-words file requests lent sizes e =
     let (o, z) = bundle-open file (length requests) (length lent) sizes e in
     let done = read-done file requests lent o in (
@@ -301,11 +300,11 @@ pub writing-what-was-read : (file requests lent room : List ℕ) (sizes : Sizes)
 writing-what-was-read file requests lent room sizes trace plan s e f g h =
     let d = accepted file (length requests) (length lent) (bundle-open file (length requests) (length lent) sizes e .0) in
     let (z, there, then) = read-words file requests lent sizes e in
-    let t : trace ≡ requestsIn file = sym f ∙ there in
-    let p : plan ≡ planIn file = sym g ∙ then in
+    let t : trace ≡ fileRequests file = sym f ∙ there in
+    let p : plan ≡ filePlan file = sym g ∙ then in
     let same = same-bytes file (length requests) (length lent) d s in
     let w =
-    write-done (wordAt file 4) (wordAt file 8) (requestsIn file) (planIn file) room (again-open file (length requests) (length lent) d)
+    write-done (wordAt file 4) (wordAt file 8) (fileRequests file) (filePlan file) room (again-open file (length requests) (length lent) d)
     (rw (ap length same) h)
     in
     rw (← z, t, p) (

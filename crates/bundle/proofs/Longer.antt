@@ -18,7 +18,7 @@ use Rattle.paging.specs.declared.Gate.the-variants.{No}
 use Rattle.paging.specs.declared.Refusal.{Refusal}
 use Rattle.paging.specs.declared.Refusal.the-variants.{CountNotAllowed, BytesLeftOver}
 use Rattle.words.specs.Bytes.{wordAt}
-use Rattle.bundle.specs.Reading.{requestCount, planPlace, planCount, fileEnd, planFits, formTests, sizesOf, answerBy, readOf}
+use Rattle.bundle.specs.Reading.{requestCount, planPlace, planCount, fileEnd, planFits, formTests, sizesOf, sizesBy, readOf}
 use Rattle.bundle.specs.declared.ReadAnswer.the-variants.{Refused}
 use Rattle.bundle.proofs.Chains.{fits-small, judge-stops}
 
@@ -46,23 +46,23 @@ module _ (file : List ℕ) (long : 64020 < length file) where
       sixteen : ltb (length file) 16 ≡ false
       sixteen = le-ltb (length file) 16 (omega arith)
 
-      counted : requestCount file ≤ 8000 → ltb (length file) (planPlace file + 4) ≡ false
+      counted : requestCount file ≤ requestLimit → ltb (length file) (planPlace file + 4) ≡ false
       counted h = le-ltb (length file) (planPlace file + 4) (omega arith)
 
       go : (x y z : Bool) → eqb (wordAt file 0) 2 ≡ x → ltb requestLimit (requestCount file) ≡ y → planFits (requestCount file) (planCount file) ≡ z
           → gate (formTests file) ≡ No (longRefusal file)
       go false y z p q r = rw (four, p)
       go true true z p q r = rw (four, p, sixteen, q)
-      go true false false p q r = rw (four, p, sixteen, q, counted (ltb-false 8000 (requestCount file) q), r)
+      go true false false p q r = rw (four, p, sixteen, q, counted (ltb-false requestLimit (requestCount file) q), r)
       go true false true p q r =
-          let h : requestCount file ≤ 8000 = ltb-false 8000 (requestCount file) q in
+          let h : requestCount file ≤ requestLimit = ltb-false requestLimit (requestCount file) q in
           let k : fileEnd file < length file = omega (arith, fits-small (requestCount file) (planCount file) r) in
           let l : fileEnd file ≤ length file = omega arith in
           rw (four, p, sixteen, q, counted h, r, le-ltb (length file) (fileEnd file) l, lt-ltb (fileEnd file) (length file) k)
 
   pub long-refused : (a b : ℕ) → readOf file a b ≡ Refused (longRefusal file)
   unfolding readOf
-  long-refused a b = ap (λ (g : Gate). answerBy g (sizesOf file)) (sym (judge-stops file a b (longRefusal file) form-refused))
+  long-refused a b = ap (λ (g : Gate). sizesBy g (sizesOf file)) (sym (judge-stops file a b (longRefusal file) form-refused))
 
 -- ---- the words in the front of a file
 
@@ -88,7 +88,7 @@ module _ (file : List ℕ) (k : ℕ) where
           → refusalBy (wordAt file 0) (requestCount file) (wordAt (take k file) (planPlace file)) ≡ refusalBy (wordAt file 0) (requestCount file) (planCount file)
       go true q = rw q
       go false q =
-          let r : requestCount file ≤ 8000 = ltb-false 8000 (requestCount file) q in
+          let r : requestCount file ≤ requestLimit = ltb-false requestLimit (requestCount file) q in
           ap (refusalBy (wordAt file 0) (requestCount file)) (front-word (planPlace file) (omega arith))
 
 -- ---- the front is read as the whole file is

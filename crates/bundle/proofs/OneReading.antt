@@ -15,7 +15,7 @@ use Rattle.paging.specs.declared.Refusal.the-variants.{LentTooShort}
 use Rattle.calls.specs.Chain.{andThen}
 use Rattle.calls.proofs.Chain.{gate-append}
 use Rattle.words.specs.Bytes.{wordAt}
-use Rattle.bundle.specs.Reading.{requestCount, planCount, requestsIn, planIn, formTests, valueTests, readTests, sizesOf, answerBy, readOf, requestsLeft, planLeft}
+use Rattle.bundle.specs.Reading.{requestCount, planCount, fileRequests, filePlan, formTests, valueTests, readTests, sizesOf, sizesBy, readOf, requestsLeft, planLeft}
 use Rattle.bundle.specs.Writing.{fileOf, callTests, writeOf, roomLeft}
 use Rattle.bundle.specs.declared.Sizes.{Sizes}
 use Rattle.bundle.specs.declared.ReadAnswer.the-variants.{Bundle, Refused}
@@ -37,8 +37,8 @@ one-bundle n m n′ m′ trace plan trace′ plan′ o wt wp o′ wt′ wp′ e 
     let b = front-parts n′ m′ trace′ plan′ o′ wt′ wp′ in (
       sym (a .1) ∙ ap (λ (f : List ℕ). wordAt f 4) e ∙ b .1,
       sym (a .2) ∙ ap (λ (f : List ℕ). wordAt f 8) e ∙ b .2,
-      sym (same-requests n m trace plan o wt wp) ∙ ap requestsIn e ∙ same-requests n′ m′ trace′ plan′ o′ wt′ wp′,
-      sym (same-plan n m trace plan o wt wp) ∙ ap planIn e ∙ same-plan n′ m′ trace′ plan′ o′ wt′ wp′,
+      sym (same-requests n m trace plan o wt wp) ∙ ap fileRequests e ∙ same-requests n′ m′ trace′ plan′ o′ wt′ wp′,
+      sym (same-plan n m trace plan o wt wp) ∙ ap filePlan e ∙ same-plan n′ m′ trace′ plan′ o′ wt′ wp′,
     )
 
 -- so are two writings that are not refused and leave the same bytes
@@ -60,14 +60,14 @@ lentTwice x y = test x LentTooShort ∷ test y LentTooShort ∷ []
 
 -- an answer other than refusal 6 is that of the tests before it, which know nothing of what was lent
 before-six : (file : List ℕ) (a b : ℕ) → (readOf file a b ≡ Refused LentTooShort → ⊥)
-    → readOf file a b ≡ answerBy (gate (formTests file ++ valueTests file)) (sizesOf file)
+    → readOf file a b ≡ sizesBy (gate (formTests file ++ valueTests file)) (sizesOf file)
 unfolding readOf readTests gate
 before-six file a b other =
-    let e = ap (λ (g : Gate). answerBy g (sizesOf file)) (gate-append (formTests file ++ valueTests file) (lentTwice (ltb a (requestCount file)) (ltb b (planCount file)))) in
+    let e = ap (λ (g : Gate). sizesBy g (sizesOf file)) (gate-append (formTests file ++ valueTests file) (lentTwice (ltb a (requestCount file)) (ltb b (planCount file)))) in
     e ∙ go (gate (formTests file ++ valueTests file)) (ltb a (requestCount file)) (ltb b (planCount file)) (λ q. other (e ∙ q))
   where
-    go : (g : Gate) (x y : Bool) → (answerBy (andThen g (gate (lentTwice x y))) (sizesOf file) ≡ Refused LentTooShort → ⊥)
-        → answerBy (andThen g (gate (lentTwice x y))) (sizesOf file) ≡ answerBy g (sizesOf file)
+    go : (g : Gate) (x y : Bool) → (sizesBy (andThen g (gate (lentTwice x y))) (sizesOf file) ≡ Refused LentTooShort → ⊥)
+        → sizesBy (andThen g (gate (lentTwice x y))) (sizesOf file) ≡ sizesBy g (sizesOf file)
     go Open true y other = absurd (other refl)
     go Open false true other = absurd (other refl)
     go Open false false other = refl

@@ -1,8 +1,8 @@
--- Document 01, "Bundle file": little-endian 32-bit words to bytes: the bytes of a word, of several, and of a section; bytes put over others.
+-- Document 01, "Bundle file": little-endian 32-bit words to bytes: the bytes of a word, of several, and of a section.
 -- Assumes nothing.
 use mathlib.Core.List.{List, [], _∷_, _++_}
-use Prim.Native.Nat.{ℕ, _+_, _/_, _%_}
-use lib.ListN.{length, take, drop}
+use Prim.Native.Nat.{ℕ, _/_, _%_}
+use lib.ListN.{length}
 
 unfoldable pub bytesOf : ℕ → List ℕ
 bytesOf word = word % 256 ∷ word / 256 % 256 ∷ word / 65536 % 256 ∷ word / 16777216 % 256 ∷ []
@@ -16,8 +16,3 @@ bytesIn (word ∷ words) = bytesOf word ++ bytesIn words
 unfoldable pub section : List ℕ → List ℕ
 unfolding bytesIn
 section words = bytesOf (length words) ++ bytesIn words
-
--- ---- bytes put over others, from byte `at` on
-
-abbrev pub over : ℕ → List ℕ → List ℕ → List ℕ
-over at bytes room = take at room ++ bytes ++ drop (at + length bytes) room

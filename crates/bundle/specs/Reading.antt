@@ -35,13 +35,13 @@ planCount file = wordAt file (planPlace file)
 abbrev pub fileEnd : List ℕ → ℕ
 fileEnd file = planPlace file + 4 + 4 * planCount file
 
-unfoldable pub requestsIn : List ℕ → List ℕ
+unfoldable pub fileRequests : List ℕ → List ℕ
 unfolding wordsAt
-requestsIn file = wordsAt file 16 (requestCount file)
+fileRequests file = wordsAt file 16 (requestCount file)
 
-unfoldable pub planIn : List ℕ → List ℕ
+unfoldable pub filePlan : List ℕ → List ℕ
 unfolding wordsAt
-planIn file = wordsAt file (planPlace file + 4) (planCount file)
+filePlan file = wordsAt file (planPlace file + 4) (planCount file)
 
 -- ---- the chain of refusals
 
@@ -85,10 +85,10 @@ sizeTests n m placeN placeM =
 
 -- 2, 12 and 4
 unfoldable pub valueTests : List ℕ → List Test
-unfolding sizeTests requestsIn marked firstMark
+unfolding sizeTests fileRequests marked firstMark
 valueTests file =
     sizeTests (wordAt file 4) (wordAt file 8) 4 8
-    ++ test (marked (requestsIn file)) (MarkRequested (16 + 4 * firstMark (requestsIn file))) ∷ []
+    ++ test (marked (fileRequests file)) (MarkRequested (16 + 4 * firstMark (fileRequests file))) ∷ []
 
 -- 6 last, for so many words lent for the requests and for the plan
 unfoldable pub readTests : List ℕ → ℕ → ℕ → List Test
@@ -104,19 +104,19 @@ readTests file forRequests forPlan =
 abbrev pub sizesOf : List ℕ → Sizes
 sizesOf file = record { n = wordAt file 4; m = wordAt file 8; requests = requestCount file; planned = planCount file }
 
-abbrev pub answerBy : Gate → Sizes → ReadAnswer
-answerBy Open sizes = Bundle sizes
-answerBy (No refusal) sizes = Refused refusal
+abbrev pub sizesBy : Gate → Sizes → ReadAnswer
+sizesBy Open sizes = Bundle sizes
+sizesBy (No refusal) sizes = Refused refusal
 
 unfoldable pub readOf : List ℕ → ℕ → ℕ → ReadAnswer
 unfolding gate readTests
-readOf file forRequests forPlan = answerBy (gate (readTests file forRequests forPlan)) (sizesOf file)
+readOf file forRequests forPlan = sizesBy (gate (readTests file forRequests forPlan)) (sizesOf file)
 
 -- the requests at the front of one list, the plan at the front of the other; on a refusal both as they were
 unfoldable pub requestsLeft : List ℕ → List ℕ → ℕ → List ℕ
 unfolding gate readTests
-requestsLeft file requests forPlan = leftBy (gate (readTests file (length requests) forPlan)) (requestsIn file) requests
+requestsLeft file requests forPlan = leftBy (gate (readTests file (length requests) forPlan)) (fileRequests file) requests
 
 unfoldable pub planLeft : List ℕ → ℕ → List ℕ → List ℕ
-unfolding gate readTests planIn
-planLeft file forRequests plan = leftBy (gate (readTests file forRequests (length plan))) (planIn file) plan
+unfolding gate readTests filePlan
+planLeft file forRequests plan = leftBy (gate (readTests file forRequests (length plan))) (filePlan file) plan

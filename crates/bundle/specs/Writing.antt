@@ -32,13 +32,13 @@ unfolding callTests fileOf
 writeTests n m trace plan room =
     callTests n m trace (length plan) ++ test (ltb room (length (fileOf n m trace plan))) LentTooShort ∷ []
 
-abbrev pub answerBy : Gate → ℕ → WriteAnswer
-answerBy Open bytes = Bytes bytes
-answerBy (No refusal) bytes = Refused refusal
+abbrev pub bytesBy : Gate → ℕ → WriteAnswer
+bytesBy Open bytes = Bytes bytes
+bytesBy (No refusal) bytes = Refused refusal
 
 unfoldable pub writeOf : ℕ → ℕ → List ℕ → List ℕ → ℕ → WriteAnswer
 unfolding gate writeTests
-writeOf n m trace plan room = answerBy (gate (writeTests n m trace plan room)) (length (fileOf n m trace plan))
+writeOf n m trace plan room = bytesBy (gate (writeTests n m trace plan room)) (length (fileOf n m trace plan))
 
 -- the file at the front of the room; on a refusal the room as it was
 unfoldable pub roomLeft : ℕ → ℕ → List ℕ → List ℕ → List ℕ → List ℕ

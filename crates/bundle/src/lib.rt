@@ -9,7 +9,8 @@ ghost use Rattle.paging.specs.Calls.{requestLimit, gate, firstMark};
 ghost use Rattle.paging.specs.declared.Gate.the-variants.{No};
 ghost use Rattle.paging.specs.declared.Refusal.the-variants.{FileCut};
 ghost use Rattle.words.specs.Bytes.{wordAt, wordsAt};
-ghost use Rattle.bundle.specs.Bytes.{bytesOf, bytesIn, section, over};
+ghost use Rattle.bundle.specs.Bytes.{bytesOf, bytesIn, section};
+ghost use Rattle.bundle.specs.Devices.Over.{over};
 ghost use Rattle.bundle.specs.Reading.{requestCount, planFits, sizeTests, headTests, tailTests, formTests, valueTests, readTests, readOf, requestsLeft, planLeft};
 ghost use Rattle.bundle.specs.Writing.{callTests, writeOf, roomLeft};
 ghost use Rattle.bundle.specs.Numbers.{readNumbers, writeNumbers};
@@ -211,7 +212,7 @@ fn judge(file: &[u8], requests: usize, plan: usize) -> Gate
 // Reading: both sizes and counts, with the requests and the plan at the front of the lent lists, other words as they were.
 // Refusals 9, 10 and 11 front to back, then 2, 12, 4 and 6, with all words as they were.
 pub fn read(file: &[u8], requests: &mut [u32], plan: &mut [u32]) -> ReadAnswer
-    ensures { λ r. ⌜ (r ≡ readOf (now (file .entry)) (length (now (requests .entry))) (length (now (plan .entry)))) × (now (requests .exit) ≡ requestsLeft (now (file .entry)) (now (requests .entry)) (length (now (plan .entry)))) × (now (plan .exit) ≡ planLeft (now (file .entry)) (length (now (requests .entry))) (now (plan .entry))) ⌝ }
+    ensures { λ r. ⌜ (r ≡ readOf (now (file .entry)) (length (now (requests .entry))) (length (now (plan .entry)))) × (now (requests .exit) ≡ requestsLeft (now (file .entry)) (now (requests .entry)) (length (now (plan .entry)))) × (now (plan .exit) ≡ planLeft (now (file .entry)) (length (now (requests .entry))) (now (plan .entry))) × (readNumbers r ≡ readNumbers (readOf (now (file .entry)) (length (now (requests .entry))) (length (now (plan .entry))))) ⌝ }
 {
     match judge(file, requests.len(), plan.len()) {
         Gate::No(refusal) => ReadAnswer::Refused(refusal),
@@ -289,7 +290,7 @@ fn call_gate(n: u32, m: u32, trace: &[u32], planned: usize) -> Gate
 // Writing: the bundle at the front of the room, other bytes as they were; answers its bytes.
 // Refusals 2, 12, 3, 4, 10 and 6, with the whole room as it was. Whether the plan keeps the plan rule isn't judged.
 pub fn write(n: u32, m: u32, trace: &[u32], plan: &[u32], room: &mut [u8]) -> WriteAnswer
-    ensures { λ r. ⌜ (r ≡ writeOf n m (now (trace .entry)) (now (plan .entry)) (length (now (room .entry)))) × (now (room .exit) ≡ roomLeft n m (now (trace .entry)) (now (plan .entry)) (now (room .entry))) ⌝ }
+    ensures { λ r. ⌜ (r ≡ writeOf n m (now (trace .entry)) (now (plan .entry)) (length (now (room .entry)))) × (now (room .exit) ≡ roomLeft n m (now (trace .entry)) (now (plan .entry)) (now (room .entry))) × (writeNumbers r ≡ writeNumbers (writeOf n m (now (trace .entry)) (now (plan .entry)) (length (now (room .entry))))) ⌝ }
 {
     match call_gate(n, m, trace, plan.len()) {
         Gate::No(refusal) => WriteAnswer::Refused(refusal),

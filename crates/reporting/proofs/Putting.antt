@@ -8,28 +8,28 @@ use lib.ListN.{length, getD, take, set, length-append, length-set}
 use lib.Seq.{take-suc, append-snoc, set-at, set-out, drop-nil, take-nil}
 use borrow.Author.Tests.{lt-ltb, le-ltb}
 use Rattle.paging.specs.Services.{laid}
-use Rattle.reporting.specs.Putting.{behind, placeAfter, roomAfter, Put}
+use Rattle.reporting.specs.Putting.{behind, placeBehind, roomBehind, Put}
 use Rattle.reporting.specs.Report.{digitAt}
 
 pub put-none : (at : ℕ) (room : List ℕ) → Put at [] room at room
-unfolding placeAfter roomAfter
+unfolding placeBehind roomBehind
 put-none at room = record { place-is = refl; room-is = refl }
 
 pub put-one : (at byte : ℕ) (room : List ℕ) → at < length room → Put at (byte ∷ []) room (at + 1) (set room at byte)
-unfolding placeAfter roomAfter
+unfolding placeBehind roomBehind
 put-one at byte room h = record { place-is = rw (lt-ltb _ _ h) refl; room-is = refl }
 
 pub put-out : (at byte : ℕ) (room : List ℕ) → length room ≤ at → Put at (byte ∷ []) room at room
-unfolding placeAfter roomAfter
+unfolding placeBehind roomBehind
 put-out at byte room h = record { place-is = rw (le-ltb _ _ h) refl; room-is = sym (set-out room at byte h) }
 
-then-place : (xs ys room : List ℕ) (at : ℕ) → placeAfter (placeAfter at xs room) ys (roomAfter at xs room) ≡ placeAfter at (xs ++ ys) room
-unfolding placeAfter roomAfter
+then-place : (xs ys room : List ℕ) (at : ℕ) → placeBehind (placeBehind at xs room) ys (roomBehind at xs room) ≡ placeBehind at (xs ++ ys) room
+unfolding placeBehind roomBehind
 then-place [] ys room at = refl
 then-place (x ∷ xs) ys room at = then-place xs ys (set room at x) (behind at room)
 
-then-room : (xs ys room : List ℕ) (at : ℕ) → roomAfter (placeAfter at xs room) ys (roomAfter at xs room) ≡ roomAfter at (xs ++ ys) room
-unfolding placeAfter roomAfter
+then-room : (xs ys room : List ℕ) (at : ℕ) → roomBehind (placeBehind at xs room) ys (roomBehind at xs room) ≡ roomBehind at (xs ++ ys) room
+unfolding placeBehind roomBehind
 then-room [] ys room at = refl
 then-room (x ∷ xs) ys room at = then-room xs ys (set room at x) (behind at room)
 
@@ -37,8 +37,8 @@ then-room (x ∷ xs) ys room at = then-room xs ys (set room at x) (behind at roo
 pub put-then : {at : ℕ} {xs ys room : List ℕ} {next : ℕ} {between : List ℕ} {place : ℕ} {left : List ℕ} → Put at xs room next between → Put next ys between place left
     → Put at (xs ++ ys) room place left
 put-then {at} {xs} {ys} {room} p q = record {
-  place-is = q .place-is ∙ ap₂ (λ (a : ℕ) (b : List ℕ). placeAfter a ys b) (p .place-is) (p .room-is) ∙ then-place xs ys room at;
-  room-is = q .room-is ∙ ap₂ (λ (a : ℕ) (b : List ℕ). roomAfter a ys b) (p .place-is) (p .room-is) ∙ then-room xs ys room at;
+  place-is = q .place-is ∙ ap₂ (λ (a : ℕ) (b : List ℕ). placeBehind a ys b) (p .place-is) (p .room-is) ∙ then-place xs ys room at;
+  room-is = q .room-is ∙ ap₂ (λ (a : ℕ) (b : List ℕ). roomBehind a ys b) (p .place-is) (p .room-is) ∙ then-room xs ys room at;
 }
 
 -- one byte more of a list
@@ -48,8 +48,8 @@ put-next at bytes room i next between place left h p q =
     let e : i + 1 ≡ suc i = omega arith in
     rw (e, take-suc bytes i 0 h) (put-then p q)
 
-length-after : (bytes room : List ℕ) (at : ℕ) → length (roomAfter at bytes room) ≡ length room
-unfolding roomAfter
+length-after : (bytes room : List ℕ) (at : ℕ) → length (roomBehind at bytes room) ≡ length room
+unfolding roomBehind
 length-after [] room at = refl
 length-after (b ∷ bytes) room at = length-after bytes (set room at b) (behind at room) ∙ length-set room at b
 
@@ -75,8 +75,8 @@ digit-one x power h = rw (le-ltb _ _ h) refl
 
 -- ---- from the front of the room
 
-place-from : (bytes before rest : List ℕ) (at : ℕ) → length before ≡ at → placeAfter at bytes (before ++ rest) ≡ at + length (take (length rest) bytes)
-unfolding placeAfter
+place-from : (bytes before rest : List ℕ) (at : ℕ) → length before ≡ at → placeBehind at bytes (before ++ rest) ≡ at + length (take (length rest) bytes)
+unfolding placeBehind
 place-from [] before rest at e = rw (take-nil {A = ℕ} (length rest)) (omega arith)
 place-from (b ∷ bytes) before [] at e =
     let full : length (before ++ []) ≤ at = omega (arith, length-append before []) in
@@ -87,8 +87,8 @@ place-from (b ∷ bytes) before (r ∷ rest) at e =
     rw (lt-ltb at (length (before ++ r ∷ rest)) room, set-at before r rest b at e, ← append-snoc before b rest)
     (place-from bytes (before ++ b ∷ []) rest (at + 1) more ∙ omega arith)
 
-room-from : (bytes before rest : List ℕ) (at : ℕ) → length before ≡ at → roomAfter at bytes (before ++ rest) ≡ before ++ laid bytes rest
-unfolding roomAfter
+room-from : (bytes before rest : List ℕ) (at : ℕ) → length before ≡ at → roomBehind at bytes (before ++ rest) ≡ before ++ laid bytes rest
+unfolding roomBehind
 room-from [] before rest at e = rw (take-nil {A = ℕ} (length rest)) refl
 room-from (b ∷ bytes) before [] at e =
     let full : length (before ++ []) ≤ at = omega (arith, length-append before []) in

@@ -10,7 +10,7 @@ use Rattle.paging.specs.Calls.{requestLimit, gate}
 use Rattle.paging.specs.declared.Gate.the-variants.{Open}
 use Rattle.paging.specs.declared.Refusal.{Refusal}
 use Rattle.words.specs.Bytes.{wordsAt}
-use Rattle.bundle.specs.Reading.{requestCount, planPlace, planCount, requestsIn, planIn, readTests, readOf, requestsLeft, planLeft}
+use Rattle.bundle.specs.Reading.{requestCount, planPlace, planCount, fileRequests, filePlan, readTests, readOf, requestsLeft, planLeft}
 use Rattle.bundle.specs.declared.Sizes.{Sizes}
 use Rattle.bundle.specs.declared.ReadAnswer.{ReadAnswer}
 use Rattle.bundle.specs.declared.ReadAnswer.the-variants.{Bundle, Refused}
@@ -21,7 +21,7 @@ use Rattle.reporting.specs.Report.{refusedLine, linesOf, textBy, reportO
 
 pub text-refused : (file : List ℕ) (refusal : Refusal) → readOf file requestLimit requestLimit ≡ Refused refusal → refusedLine refusal ≡ reportOf file
 unfolding reportOf
-text-refused file refusal e = sym (ap (λ (answer : ReadAnswer). textBy answer (requestsIn file) (planIn file)) e)
+text-refused file refusal e = sym (ap (λ (answer : ReadAnswer). textBy answer (fileRequests file) (filePlan file)) e)
 
 front-long : (words others : List ℕ) (count : ℕ) → length words ≡ count → count ≤ length (words ++ others)
 front-long words others count e = omega (arith, length-append words others)
@@ -47,16 +47,16 @@ module _ (file : List ℕ) (sizes : Sizes) (e : readOf file requestLimit request
   -- what stands at the front of both lists gives the text
   pub text-lines : (requests plan : List ℕ) → length requests ≡ requestLimit → length plan ≡ requestLimit
       → linesOf sizes (take (sizes .requests) (requestsLeft file requests (length plan))) (take (sizes .planned) (planLeft file (length requests) plan)) ≡ reportOf file
-  unfolding reportOf requestsIn planIn
+  unfolding reportOf fileRequests filePlan
   text-lines requests plan r p =
       let b = bundle-open file requestLimit requestLimit sizes e in
       let o : gate (readTests file (length requests) (length plan)) ≡ Open = rw (r, p) (b .0) in
       let d = read-done file requests plan o in
-      let front : take (sizes .requests) (requestsLeft file requests (length plan)) ≡ requestsIn file =
+      let front : take (sizes .requests) (requestsLeft file requests (length plan)) ≡ fileRequests file =
       ap₂ take (sym (ap (λ (z : Sizes). z .requests) (b .1))) (sym (d .1))
       ∙ take-at (wordsAt file 16 (requestCount file)) (drop (requestCount file) requests) (requestCount file) (length-words file 16 (requestCount file)) in
-      let back : take (sizes .planned) (planLeft file (length requests) plan) ≡ planIn file =
+      let back : take (sizes .planned) (planLeft file (length requests) plan) ≡ filePlan file =
       ap₂ take (sym (ap (λ (z : Sizes). z .planned) (b .1))) (sym (d .2))
       ∙ take-at (wordsAt file (planPlace file + 4) (planCount file)) (drop (planCount file) plan) (planCount file) (length-words file (planPlace file + 4) (planCount file)) in
       ap₂ (linesOf sizes) front back
-      ∙ sym (ap (λ (answer : ReadAnswer). textBy answer (requestsIn file) (planIn file)) e)
+      ∙ sym (ap (λ (answer : ReadAnswer). textBy answer (fileRequests file) (filePlan file)) e)

@@ -16,7 +16,7 @@ use Rattle.paging.specs.declared.Answer.the-variants.{Faults, Refused}
 use Rattle.calls.specs.Answers.{answerNumbers}
 use Rattle.counts.specs.Counts.{countOf}
 use Rattle.judge.specs.Check.{checkOf}
-use Rattle.bundle.specs.Reading.{readOf, requestsIn, planIn}
+use Rattle.bundle.specs.Reading.{readOf, fileRequests, filePlan}
 use Rattle.bundle.specs.declared.Sizes.{Sizes}
 use Rattle.bundle.specs.declared.ReadAnswer.{ReadAnswer}
 use Rattle.bundle.specs.declared.ReadAnswer.the-variants as read
@@ -99,4 +99,4 @@ text-short (read.Refused refusal) trace plan = le-trans (refused-short refusal) 
 
 pub report-short : (file : List ℕ) → length (reportOf file) ≤ 256
 unfolding reportOf
-report-short file = text-short (readOf file requestLimit requestLimit) (requestsIn file) (planIn file)
+report-short file = text-short (readOf file requestLimit requestLimit) (fileRequests file) (filePlan file)

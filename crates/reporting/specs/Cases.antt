@@ -9,7 +9,7 @@ use Rattle.paging.specs.Rules.{mark}
 use Rattle.counts.specs.Counts.{countOf}
 use Rattle.judge.specs.Check.{checkOf}
 use Rattle.bundle.specs.Bytes.{section}
-use Rattle.bundle.specs.Reading.{readOf, requestsIn, planIn}
+use Rattle.bundle.specs.Reading.{readOf, fileRequests, filePlan}
 use Rattle.reporting.specs.Report.{digitAt, decimal, requestsWord, lruWord, fifoWord, minWord, lru2Word, claimWord, noneWord, refusedWord, atWord, reportOf}
 
 -- n 3, m 2, requests 5 6 7 5 8 6 5 7, and a plan
@@ -31,22 +31,22 @@ abbrev claim : List ℕ
 claim = mark ∷ mark ∷ 5 ∷ 6 ∷ 7 ∷ 5 ∷ 8 ∷ 6 ∷ []
 
 pub example : (length (bundle claim) ≡ 84) × (reportOf (bundle claim) ≡ counted ++ claimWord ++ (50 ∷ 32 ∷ 56 ∷ 10 ∷ []))
-unfolding section reportOf readOf requestsIn planIn countOf checkOf decimal digitAt
+unfolding section reportOf readOf fileRequests filePlan countOf checkOf decimal digitAt
 example = (refl, refl)
 
 -- claim none
 pub without-a-plan : reportOf (bundle []) ≡ counted ++ claimWord ++ noneWord
-unfolding section reportOf readOf requestsIn planIn countOf checkOf decimal digitAt
+unfolding section reportOf readOf fileRequests filePlan countOf checkOf decimal digitAt
 without-a-plan = refl
 
 -- claim refused 7 at 2
 pub refused-plan : reportOf (bundle (mark ∷ mark ∷ 9 ∷ 6 ∷ 7 ∷ 5 ∷ 8 ∷ 6 ∷ [])) ≡ counted ++ claimWord ++ refusedWord ++ (55 ∷ []) ++ atWord ++ (50 ∷ 10 ∷ [])
-unfolding section reportOf readOf requestsIn planIn countOf checkOf decimal digitAt
+unfolding section reportOf readOf fileRequests filePlan countOf checkOf decimal digitAt
 refused-plan = refl
 
 -- refused 9 at 12
 pub refused-file : reportOf (section (3 ∷ 2 ∷ [])) ≡ refusedWord ++ (57 ∷ []) ++ atWord ++ (49 ∷ 50 ∷ 10 ∷ [])
-unfolding section reportOf readOf requestsIn planIn countOf checkOf decimal digitAt
+unfolding section reportOf readOf fileRequests filePlan countOf checkOf decimal digitAt
 refused-file = refl
 
 -- 0, 10, 8000 and the largest

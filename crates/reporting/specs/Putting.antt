@@ -12,16 +12,16 @@ abbrev pub behind : ℕ → List ℕ → ℕ
 behind at room = pick (ltb at (length room)) (at + 1) at
 
 -- the place behind the last byte put
-unfoldable pub placeAfter : ℕ → List ℕ → List ℕ → ℕ
-placeAfter at [] room = at
-placeAfter at (byte ∷ bytes) room = placeAfter (behind at room) bytes (set room at byte)
+unfoldable pub placeBehind : ℕ → List ℕ → List ℕ → ℕ
+placeBehind at [] room = at
+placeBehind at (byte ∷ bytes) room = placeBehind (behind at room) bytes (set room at byte)
 
 -- the room with the bytes in it
-unfoldable pub roomAfter : ℕ → List ℕ → List ℕ → List ℕ
-roomAfter at [] room = room
-roomAfter at (byte ∷ bytes) room = roomAfter (behind at room) bytes (set room at byte)
+unfoldable pub roomBehind : ℕ → List ℕ → List ℕ → List ℕ
+roomBehind at [] room = room
+roomBehind at (byte ∷ bytes) room = roomBehind (behind at room) bytes (set room at byte)
 
 -- what a function answers and leaves that puts these bytes from that place on
 pub record Put (at : ℕ) (bytes room : List ℕ) (place : ℕ) (left : List ℕ) : Type 0 where
-  pub place-is : place ≡ placeAfter at bytes room
-  pub room-is : left ≡ roomAfter at bytes room
+  pub place-is : place ≡ placeBehind at bytes room
+  pub room-is : left ≡ roomBehind at bytes room

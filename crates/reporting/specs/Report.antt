@@ -14,7 +14,7 @@ use Rattle.paging.specs.declared.Answer.the-variants.{Faults, Refused}
 use Rattle.calls.specs.Answers.{answerNumbers}
 use Rattle.counts.specs.Counts.{countOf}
 use Rattle.judge.specs.Check.{checkOf}
-use Rattle.bundle.specs.Reading.{readOf, requestsIn, planIn}
+use Rattle.bundle.specs.Reading.{readOf, fileRequests, filePlan}
 use Rattle.bundle.specs.declared.Sizes.{Sizes}
 use Rattle.bundle.specs.declared.ReadAnswer.{ReadAnswer}
 use Rattle.bundle.specs.declared.ReadAnswer.the-variants as read
@@ -124,4 +124,4 @@ textBy (read.Bundle sizes) trace plan = linesOf sizes trace plan
 textBy (read.Refused refusal) trace plan = refusedLine refusal
 
 unfoldable pub reportOf : List ℕ → List ℕ
-reportOf file = textBy (readOf file requestLimit requestLimit) (requestsIn file) (planIn file)
+reportOf file = textBy (readOf file requestLimit requestLimit) (fileRequests file) (filePlan file)

@@ -150,8 +150,8 @@ fn lines(room: &mut [u8], sizes: Sizes, trace: &[u32], plan: &[u32]) -> usize
 pub fn report(file: &[u8], room: &mut [u8]) -> usize
     ensures { λ r. ⌜ (r ≡ length (take (length (now (room .entry))) (reportOf (now (file .entry))))) × (now (room .exit) ≡ laid (reportOf (now (file .entry))) (now (room .entry))) ⌝ }
 {
-    let mut requests = [0u32; 8000];
-    let mut plan = [0u32; 8000];
+    let mut requests = [0u32; calls::REQUESTS];
+    let mut plan = [0u32; calls::REQUESTS];
     match bundle::read(file, &mut requests, &mut plan) {
         ReadAnswer::Refused(refusal) => refused_line(room, 0, refusal),
         ReadAnswer::Bundle(sizes) => lines(

@@ -35,13 +35,6 @@ pub fn left_at(file: &[u8], at: usize) -> usize
     file.len() - at
 }
 
-// How many bytes are left from its place on.
-pub fn left<'a>(r: Reader<'a>) -> usize
-    ensures { λ n. ⌜ n ≡ bytesFrom (now (r .entry .file)) (r .entry .at) ⌝ }
-{
-    left_at(r.file, r.at)
-}
-
 fn lesser(a: usize, b: usize) -> usize
     ensures { λ n. ⌜ n ≡ lesserOf a b ⌝ }
 {

@@ -4,7 +4,8 @@ use borrow.Author.Needs.{needs}
 use mathlib.Core.Path.{ap, _∙_}
 use mathlib.Core.List.{List}
 use Prim.Native.Nat.{ℕ, _+_, _*_, _≤_}
-use Rattle.bundle.specs.Bytes.{bytesIn, over}
+use Rattle.bundle.specs.Bytes.{bytesIn}
+use Rattle.bundle.specs.Devices.Over.{over}
 use lib.ListN.{length}
 use Rattle.bundle.proofs.Bytes.{put-whole}
 use Rattle.bundle.proofs.put_section.Statement.{statement}

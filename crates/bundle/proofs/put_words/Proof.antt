@@ -7,7 +7,8 @@ use Prim.Native.Nat.{ℕ, _+_, _*_, _-_, _≤_}
 use native.Mathlib.Omega.{arith}
 use lib.ListN.{length, getD, take}
 use lib.Seq.{take-all}
-use Rattle.bundle.specs.Bytes.{bytesOf, bytesIn, over}
+use Rattle.bundle.specs.Bytes.{bytesOf, bytesIn}
+use Rattle.bundle.specs.Devices.Over.{over}
 use Rattle.bundle.proofs.Bytes.{length-word, length-over, over-none, put-next}
 use Rattle.bundle.proofs.put_words.Statement.{statement}
 use Rattle.bundle.proofs.put_words.Tie as tie

@@ -9,7 +9,10 @@ use lib.ListN.{length, drop}
 use Rattle.paging.specs.Calls.{gate}
 use Rattle.paging.specs.declared.Gate.the-variants.{Open}
 use Rattle.words.specs.Bytes.{wordAt, wordsAt}
-use Rattle.bundle.specs.Reading.{planCount, readTests}
+use Rattle.bundle.specs.Reading.{planCount, readTests, readOf}
+use Rattle.bundle.specs.Numbers.{readNumbers}
+use Rattle.bundle.specs.declared.Sizes.{Sizes}
+use Rattle.bundle.specs.declared.ReadAnswer.the-variants.{Bundle}
 use Rattle.bundle.proofs.Chains.{Accepted, accepted, read-refused, read-done}
 use Rattle.bundle.proofs.read.Statement.{statement}
 use Rattle.bundle.proofs.read.Tie as tie
@@ -87,7 +90,8 @@ returns : tie.Need-returns
 returns c =
     let g = c .before .before .before in
     let s = g .before .before .before .before in
-    read-refused (s .args .file .now) (s .args .requests .now) (s .args .plan .now) _ (sym (g .judge .ensures) ∙ c .before .refusal .given .1)
+    let d = read-refused (s .args .file .now) (s .args .requests .now) (s .args .plan .now) _ (sym (g .judge .ensures) ∙ c .before .refusal .given .1) in
+    (d .0, d .1, d .2, ap readNumbers (d .0))
 
 same-length : tie.Need-same-length
 same-length c = search needs
@@ -103,10 +107,15 @@ returns-2 c =
     let w = p .before in
     let s = w .before .before .before .before .before .before .before in
     let file = s .args .file .now in
-    let d = read-done file (s .args .requests .now) (s .args .plan .now) (open-gate (w .before)) in (
-      rw (c .before .number-at3 .ensures, c .number-at4 .ensures, planned-is p, w .number-at .ensures) (d .0),
+    let d = read-done file (s .args .requests .now) (s .args .plan .now) (open-gate (w .before)) in
+    let sizes : Sizes = record { n = c .before .number-at3 .result; m = c .number-at4 .result; requests = w .number-at .result; planned = p .number-at2 .result } in
+    let told : Bundle sizes ≡ readOf file (length (s .args .requests .now)) (length (s .args .plan .now)) =
+    rw (c .before .number-at3 .ensures, c .number-at4 .ensures, planned-is p, w .number-at .ensures) (d .0)
+    in (
+      told,
       x .numbers-at .ensures ∙ ap (λ (t : ℕ). wordsAt file 16 t ++ drop t (s .args .requests .now)) (w .number-at .ensures) ∙ d .1,
       y .numbers-at2 .ensures ∙ ap₂ (λ (t k : ℕ). wordsAt file (16 + 4 * t + 4) k ++ drop k (s .args .plan .now)) (w .number-at .ensures) (planned-is p) ∙ d .2,
+      ap readNumbers told,
     )
 
 pub read-spec : {M : Type 1} → statement M

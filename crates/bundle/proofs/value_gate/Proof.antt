@@ -9,7 +9,7 @@ use Rattle.paging.specs.Calls.{firstMark}
 use Rattle.paging.specs.declared.Gate.the-variants.{Open, No}
 use Rattle.paging.specs.declared.Refusal.the-variants.{MarkRequested}
 use Rattle.words.specs.Bytes.{wordAt, wordsAt}
-use Rattle.bundle.specs.Reading.{requestCount, requestsIn, sizeTests}
+use Rattle.bundle.specs.Reading.{requestCount, fileRequests, sizeTests}
 use Rattle.bundle.proofs.Chains.{value-stops, value-marked, value-open}
 use Rattle.bundle.proofs.value_gate.Statement.{statement}
 use Rattle.bundle.proofs.value_gate.Tie as tie
@@ -25,8 +25,8 @@ size-open : (c : tie.After-enum-told)
 size-open c = sizes-are (c .before .before) ∙ c .enum-told .given .1
 
 -- the moment found is the first mark's
-first-is : (c : tie.After-mark-at) → c .mark-at .result ≡ firstMark (requestsIn (c .before .before .before .before .before .before .before .args .file .now))
-unfolding requestsIn
+first-is : (c : tie.After-mark-at) → c .mark-at .result ≡ firstMark (fileRequests (c .before .before .before .before .before .before .before .args .file .now))
+unfolding fileRequests
 first-is c =
     let s = c .before .before .before .before .before .before .before in
     c .mark-at .ensures ∙ ap (λ (k : ℕ). firstMark (wordsAt (s .args .file .now) 16 k)) (s .pre .0)
@@ -62,7 +62,7 @@ returns : tie.Need-returns
 returns c =
     let m = c .before in
     let s = m .before .before .before .before .before .before .before in
-    let h : firstMark (requestsIn (s .args .file .now)) < requestCount (s .args .file .now) = omega (arith, first-is m, s .pre .0, c .if1 .taken) in
+    let h : firstMark (fileRequests (s .args .file .now)) < requestCount (s .args .file .now) = omega (arith, first-is m, s .pre .0, c .if1 .taken) in
     ap (λ (k : ℕ). No (MarkRequested (16 + 4 * k))) (first-is m) ∙ value-marked (s .args .file .now) (size-open (m .before)) h
 
 returns-2 : tie.Need-returns-2
@@ -74,7 +74,7 @@ returns-3 : tie.Need-returns-3
 returns-3 c =
     let m = c .before in
     let s = m .before .before .before .before .before .before .before in
-    let h : requestCount (s .args .file .now) ≤ firstMark (requestsIn (s .args .file .now)) = omega (arith, first-is m, s .pre .0, c .if1 .left) in
+    let h : requestCount (s .args .file .now) ≤ firstMark (fileRequests (s .args .file .now)) = omega (arith, first-is m, s .pre .0, c .if1 .left) in
     value-open (s .args .file .now) (size-open (m .before)) h
 
 pub value-gate-spec : {M : Type 1} → statement M

@@ -6,10 +6,12 @@ use mathlib.Core.List.{List, [], _∷_}
 use Prim.Native.Nat.{ℕ, _+_, _*_, _≤_, _<_}
 use native.Mathlib.Omega.{arith}
 use lib.ListN.{length}
-use Rattle.paging.specs.Calls.{gate}
+use Rattle.paging.specs.Calls.{requestLimit, gate}
 use Rattle.paging.specs.declared.Gate.the-variants.{Open}
-use Rattle.bundle.specs.Bytes.{section, over}
+use Rattle.bundle.specs.Bytes.{section}
+use Rattle.bundle.specs.Devices.Over.{over}
 use Rattle.bundle.specs.Writing.{fileOf, callTests}
+use Rattle.bundle.specs.Numbers.{writeNumbers}
 use Rattle.bundle.specs.declared.WriteAnswer.the-variants.{Bytes}
 use Rattle.bundle.proofs.Bytes.{length-section, length-over}
 use Rattle.bundle.proofs.Chains.{length-file, call-requests, call-planned, write-refused, write-short, write-done, three-sections}
@@ -21,7 +23,7 @@ open-gate : (c : tie.After-enum-told)
 open-gate c = sym (c .before .before .call-gate .ensures) ∙ c .enum-told .given .1
 
 -- at most 8,000 requests, and no more plan words than these
-few : (c : tie.After-enum-told) → length (c .before .before .before .before .before .before .args .trace .now) ≤ 8000
+few : (c : tie.After-enum-told) → length (c .before .before .before .before .before .before .args .trace .now) ≤ requestLimit
 few c = let s = c .before .before .before .before .before .before in call-requests (s .args .n) (s .args .m) (s .args .trace .now) (length (s .args .plan .now)) (open-gate c)
 
 fewer : (c : tie.After-enum-told) → length (c .before .before .before .before .before .before .args .plan .now) ≤ length (c .before .before .before .before .before .before .args .trace .now)
@@ -74,7 +76,8 @@ returns c =
     let o = c .before in
     let s = o .before .before .before .before .before .before in
     let h : length (s .args .room .now) < length (fileOf (s .args .n) (s .args .m) (s .args .trace .now) (s .args .plan .now)) = omega (arith, length-file (s .args .n) (s .args .m) (s .args .trace .now) (s .args .plan .now), c .if1 .taken) in
-    write-short (s .args .n) (s .args .m) (s .args .trace .now) (s .args .plan .now) (s .args .room .now) (open-gate o) h
+    let d = write-short (s .args .n) (s .args .m) (s .args .trace .now) (s .args .plan .now) (s .args .room .now) (open-gate o) h in
+    (d .0, d .1, ap writeNumbers (d .0))
 
 slice-aggregate-put-section : tie.Need-slice-aggregate-put-section
 slice-aggregate-put-section c = search needs
@@ -103,7 +106,8 @@ returns-2 : tie.Need-returns-2
 returns-2 c =
     let g = c .before .before .before in
     let s = g .before .before .before .before in
-    write-refused (s .args .n) (s .args .m) (s .args .trace .now) (s .args .plan .now) (s .args .room .now) _ (sym (g .call-gate .ensures) ∙ c .before .refusal .given .1)
+    let d = write-refused (s .args .n) (s .args .m) (s .args .trace .now) (s .args .plan .now) (s .args .room .now) _ (sym (g .call-gate .ensures) ∙ c .before .refusal .given .1) in
+    (d .0, d .1, ap writeNumbers (d .0))
 
 same-length : tie.Need-same-length
 same-length c = search needs
@@ -121,13 +125,15 @@ returns-3 c =
     let plan = s .args .plan .now in
     let l = length-file n m trace plan in
     let h : length (fileOf n m trace plan) ≤ length (s .args .room .now) = omega (arith, l, e .if1 .left) in
-    let d = write-done n m trace plan (s .args .room .now) (open-gate (e .before)) h in (
-      ap Bytes (sym l) ∙ d .0,
+    let d = write-done n m trace plan (s .args .room .now) (open-gate (e .before)) h in
+    let told = ap Bytes (sym l) ∙ d .0 in (
+      told,
       z .put-section3 .ensures
           ∙ ap (λ (r : List ℕ). over (16 + 4 * length trace) (section plan) r)
           (y .put-section2 .ensures ∙ ap (λ (r : List ℕ). over 12 (section trace) r) (x .put-section .ensures))
           ∙ three-sections n m trace plan (s .args .room .now) h
           ∙ d .1,
+      ap writeNumbers told,
     )
 
 pub write-spec : {M : Type 1} → statement M

@@ -17,7 +17,7 @@ use Rattle.reporting.proofs.report.Tie as tie
 
 -- the words lent for the requests, and for the plan
 abbrev zeros : List ℕ
-zeros = replicate 8000 0
+zeros = replicate requestLimit 0
 
 read-is : (c : tie.After-sizes) → readOf (c .before .before .before .before .before .before .before .before .before .args .file .now) requestLimit requestLimit ≡ Bundle (c .sizes .given .0 .0)
 read-is c = sym (c .before .before .before .before .read .ensures .0) ∙ c .sizes .given .1
