@@ -3,9 +3,10 @@
     python3 tests/edits.py [CRATE..]
 
 `rt` applies all replacements of a file `crates/NAME/must-fail/FILE.edit` together and says only that the file was refused. What the prover said of it stands in `target/must-fail/NAME/FILE/.log`, function by function, and is read here.
-A file `programs_N.edit` holds several wrong programs, each headed by a line `# label: what is wrong.`; any other file holds one, and its name is the label.
+Each wrong program of a file is headed by a line `# label: what is wrong.`; a file that holds one may leave the label out, and its name is the label.
 - A replacement inside a function of src/, its contract included, asks for an error in that function's own proof or, where it has no proof file, for a note in it that a fact is not proved.
-- A replacement elsewhere (a definition, a statement, a const) stands alone in its file and says by a line `breaks: NAME` which law or function has such an error; a function is named as in the log, without the crate.
+- A replacement elsewhere (a definition, a statement, a const) says by a line `breaks: NAME` which law or function has such an error; a function is named as in the log, without the crate.
+  Such programs stand alone in their file, or share one with their like where each names another law or function: one that the others do not touch, as a case of its own.
 An error that only follows from another ("was not admitted") doesn't count. A proof that no longer fits the code shows nothing, so its program fails: one that names a part that is gone ("has no `Need-..`"), whose parts are others than are put together (`NAME-spec`), or whose loop has other locals (`Inv-..`, `μ-..`).
 One error never serves two programs: a file changes a function once, and not beside a change of the contract of what it calls.
 
@@ -62,15 +63,14 @@ class Error:
 
 def programs_of(edit):
     """The programs of an edit file. A comment after a replacement begins the next one."""
-    shared = edit.stem.startswith("programs_")
     programs, file, old = [], "", ""
     for line in edit.read_text().splitlines():
         key, _, value = line.partition(":")
         value = value.removeprefix(" ")
         if line.startswith("#") and (not programs or programs[-1].changes):
-            programs.append(Program(label_of(line) if shared else edit.stem))
+            programs.append(Program(label_of(line)))
         elif not programs:
-            programs.append(Program("" if shared else edit.stem))
+            programs.append(Program(""))
         if key == "file":
             file = value
         elif key == "old":
@@ -79,6 +79,8 @@ def programs_of(edit):
             programs[-1].changes.append((file, old, value))
         elif key == "breaks":
             programs[-1].breaks.append(value)
+    if len(programs) == 1:
+        programs[0].label = programs[0].label or edit.stem
     return programs
 
 
@@ -201,7 +203,7 @@ def first_fact(errors, name):
 
 def judged(root, crate, edit):
     """A pair for each program of the file: its label, and where it is refused or a `Wrong`."""
-    programs = programs_of(edit) or [Program("" if edit.stem.startswith("programs_") else edit.stem)]
+    programs = programs_of(edit) or [Program(edit.stem)]
     folder = f"target/must-fail/{crate.name}/{edit.stem}/"
     log = root / folder / ".log"
     try:
@@ -234,8 +236,11 @@ def check_form(crate, programs, program, errors):
         return
     if not program.breaks:
         raise Wrong(f"it changes what is in no function and has no line `breaks: NAME`; broken are {broken(crate, errors)}")
-    if len(programs) > 1:
-        raise Wrong("it changes what is in no function and isn't alone in its file")
+    if any(not other.breaks for other in programs):
+        raise Wrong("it changes what is in no function and stands beside a program that does not say what it breaks")
+    named = [name for other in programs for name in other.breaks]
+    if any(named.count(name) > 1 for name in program.breaks):
+        raise Wrong("another program of the file breaks the same")
 
 
 def broken(crate, errors):

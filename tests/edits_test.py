@@ -158,6 +158,8 @@ def programs_pass():
     case("a definition that breaks a law", judged(law, error("proofs/Laws.antt", "law-holds"), "law") == (["law"], []))
     limit = program(LIMIT, "breaks: place::nine")
     case("a const that breaks a function", judged(limit, proof("place/nine"), "limit") == (["limit"], []))
+    both = lines(error("proofs/Laws.antt", "law-holds"), proof("place/nine"))
+    case("two definitions, each with a law of its own", judged(law + limit, both, "laws") == (["law", "limit"], []))
     swapped = lines("# swap: swapped.", "file: src/lib.rt", "old: seven() + 1", "new: @ + 1", "old: @", "new: eight()")
     case("a text put in between", judged(swapped, proof("eight")) == (["swap"], []))
 
@@ -193,7 +195,10 @@ def bad_form_fails():
     contract = program(("seven", "src/lib.rt", "r ≡ 7", "r ≡ 6")) + program(EIGHT)
     case("a contract beside a caller", judged(contract, lines(proof("seven"), proof("eight"))) == (["seven"], ["eight"]))
     case("a text that isn't there", judged(program(("x", "src/lib.rt", "no such text", "x")), proof("eight")) == ([], ["x"]))
-    case("no label in a shared file", judged(program(SEVEN).replace("seven: ", "", 1), proof("seven")) == ([], ["programs_1.edit"]))
+    unnamed = program(SEVEN).replace("seven: ", "", 1) + program(EIGHT)
+    case("no label in a shared file", judged(unnamed, lines(proof("seven"), proof("eight"))) == (["eight"], ["programs_1.edit"]))
+    same = program(LAW, "breaks: law-holds") + program(LIMIT, "breaks: law-holds")
+    case("two definitions with one law", judged(same, error("proofs/Laws.antt", "law-holds"), "laws") == ([], ["law", "limit"]))
     case("nothing replaced", judged("# seven: wrong.\n", proof("seven")) == ([], ["seven"]))
     case("an empty file", judged("", proof("seven"), "empty") == ([], ["empty"]))
 
