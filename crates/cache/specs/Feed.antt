@@ -5,6 +5,7 @@ use Prim.Native.Nat.{ℕ, _+_}
 use lib.Dec.{eqb}
 use Rattle.paging.specs.Lists.{not}
 use Rattle.paging.specs.Rules.{mark, noRequests}
+use Rattle.paging.specs.Refusals.{table}
 use Rattle.paging.specs.Walk.{outcome, next}
 use Rattle.paging.specs.Calls.{requestLimit, Test, test, gate}
 use Rattle.paging.specs.declared.Gate.{Gate}
@@ -15,6 +16,7 @@ use Rattle.cache.specs.declared.Cache.{Cache}
 use Rattle.cache.specs.declared.Served.{Served}
 use Rattle.cache.specs.declared.Reply.{Reply}
 use Rattle.cache.specs.declared.Reply.the-variants.{Hit, Loaded, Dropped, Refused}
+use Rattle.cache.specs.declared.ReplyNumbers.{ReplyNumbers}
 use Rattle.cache.specs.declared.Fed.{Fed}
 use Rattle.cache.specs.Record.{heldEntries, ruleOf, holding}
 use Rattle.cache.specs.Sound.{sound}
@@ -79,3 +81,12 @@ fedPlan (r ∷ rs) = replyWord r ∷ fedPlan rs
 unfoldable pub fedFaults : List Reply → ℕ
 fedFaults [] = 0
 fedFaults (r ∷ rs) = replyFault r + fedFaults rs
+
+-- ---- document 01's numbers of a reply: a refusal's number and place; the kind 0 for a hit or a refusal, 1 for a load, 2 for a drop; the page dropped, else the mark
+
+abbrev pub replyNumbers : Reply → ReplyNumbers
+replyNumbers Hit = record { number = 0; place = 0; kind = 0; page = replyWord Hit }
+replyNumbers Loaded = record { number = 0; place = 0; kind = 1; page = replyWord Loaded }
+replyNumbers (Dropped p) = record { number = 0; place = 0; kind = 2; page = replyWord (Dropped p) }
+replyNumbers (Refused refusal) =
+    record { number = table refusal .number; place = table refusal .place; kind = 0; page = replyWord (Refused refusal) }

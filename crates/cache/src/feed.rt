@@ -1,9 +1,10 @@
 // The service Feed: one request takes a record and hands back the next one.
 ghost use mathlib.Core.Path.{_≡_};
-ghost use Rattle.cache.specs.Feed.{replyOf, fed};
+ghost use Rattle.cache.specs.Feed.{replyOf, fed, replyNumbers};
 use crate::Cache;
 use crate::Fed;
 use crate::Reply;
+use crate::ReplyNumbers;
 use paging::Outcome;
 use paging::Page;
 use paging::Refusal;
@@ -47,6 +48,40 @@ impl Cache {
         Fed {
             outcome: reply(o),
             next: next,
+        }
+    }
+}
+
+impl Reply {
+    // Document 01's numbers of a reply.
+    pub fn numbers(self) -> ReplyNumbers
+        ensures { λ r. ⌜ r ≡ replyNumbers self ⌝ }
+    {
+        match self {
+            Reply::Hit => ReplyNumbers {
+                number: 0,
+                place: 0,
+                kind: 0,
+                page: paging::MARK,
+            },
+            Reply::Loaded => ReplyNumbers {
+                number: 0,
+                place: 0,
+                kind: 1,
+                page: paging::MARK,
+            },
+            Reply::Dropped(page) => ReplyNumbers {
+                number: 0,
+                place: 0,
+                kind: 2,
+                page: page.0,
+            },
+            Reply::Refused(refusal) => ReplyNumbers {
+                number: refusal.number(),
+                place: refusal.place(),
+                kind: 0,
+                page: paging::MARK,
+            },
         }
     }
 }

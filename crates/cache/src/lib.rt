@@ -270,3 +270,11 @@ impl Cache {
         }
     }
 }
+
+// Feed's reply in numbers: a refusal's number and place, the kind (0 hit or refused, 1 loaded, 2 dropped), and the page dropped, else the mark.
+pub struct ReplyNumbers {
+    pub number: u32,
+    pub place: u32,
+    pub kind: u32,
+    pub page: u32,
+}
