@@ -40,7 +40,7 @@ use denote.Exit.{yes}
 use Rattle.paging.specs.declared.Page.{Page}
 use Rattle.paging.proofs.Page as P
 use Rattle.paging.proofs.Page.Laws as P′
-use Rattle.cache.specs.Feed.{fed}
+use Rattle.cache.specs.Feed.{fed, replyNumbers}
 use Rattle.cache.specs.declared.Cache.{Cache}
 use Rattle.cache.specs.declared.Fed.{Fed}
 use Rattle.cache.specs.declared.Reply.{Reply}
@@ -99,7 +99,7 @@ module _ {M : Type 1} (𝓤 : URA M) (H : Heap 𝓤) (A : Atoms 𝓤) (W : Given
   exits r e ip io =
       qed W (‵ (fobs γ (T.the-row .coded .code (r .next))) ∷ ‵ (fbor κ (Body (mem T.the-row) b o γ)) ∷ ‵ (flft κ q) ∷ []) ∵
       suffices ! _ (ends-at 𝓤 H A own.ended stayed (own.clauses 𝓤 H A at-mem run) W (((κ, tt), (q, tt), tt, x, at), tt) (said (r .outcome)) (r .outcome) (r .next, (tt, tt)) (tt, (tt, tt))) $
-      says ! (ap (λ (f : Fed). f .outcome) e, ap (λ (f : Fed). f .next) e) $ nothing ! $ move ! (3 ∷ 0 ∷ []) $ join ! $
+      says ! (ap (λ (f : Fed). f .outcome) e, ap (λ (f : Fed). f .next) e, ap (λ (f : Fed). replyNumbers (f .outcome)) e) $ nothing ! $ move ! (3 ∷ 0 ∷ []) $ join ! $
       frame ! $ feqI ! (List Val) (vptr b o ∷ []) (vptr b o ∷ []) refl $ fjoin3 ! $ nothing ! $ owned ! P.the-row (Is P.the-row) (LL.makes P.the-type P′.the-plain 𝓤 H A) p _ ip $ fjoin ! $ move ! (1 ∷ 0 ∷ []) $ fjoin ! $
       owned ! R.the-row (Is R.the-row) (EL.makes R.the-type R′.the-plain 𝓤 H A) (r .outcome) _ io $ move ! (1 ∷ 0 ∷ []) $ done !
 

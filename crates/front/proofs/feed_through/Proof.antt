@@ -41,7 +41,7 @@ use denote.Exit.{yes}
 use Rattle.paging.specs.declared.Page.{Page}
 use Rattle.paging.proofs.Page as P
 use Rattle.paging.proofs.Page.Laws as P′
-use Rattle.cache.specs.Feed.{fed}
+use Rattle.cache.specs.Feed.{fed, replyNumbers}
 use Rattle.cache.specs.declared.Cache.{Cache}
 use Rattle.cache.specs.declared.Fed.{Fed}
 use Rattle.cache.specs.declared.Reply.{Reply}
@@ -96,14 +96,14 @@ module _ {M : Type 1} (𝓤 : URA M) (H : Heap 𝓤) (A : Atoms 𝓤) (W : Given
 
   -- what `feed_own` ensures of the reply s and the record's last value c
   abbrev Ensured : Reply → Cache → Type 0
-  Ensured s c = (s ≡ fed h (p .0) .outcome) × (c ≡ fed h (p .0) .next)
+  Ensured s c = (s ≡ fed h (p .0) .outcome) × (c ≡ fed h (p .0) .next) × (replyNumbers s ≡ replyNumbers (fed h (p .0) .outcome))
 
   module _ (ih : Is T.the-row h (cells h ∷ [])) (ip : Is P.the-row p (asked ∷ [])) where
     exits : (s : Reply) (c : Cache) → Ensured s c → Is F.the-row (answer s c) (LL.vals F.the-type F′.the-laws (answer s c)) → ent 𝓤 (emp 𝓤) (Post (LL.val F.the-type F′.the-laws (answer s c)))
     exits s c e is =
         qed W [] ∵
         suffices ! _ (ends-at 𝓤 H A through.ended stayed (through.clauses 𝓤 H A at-mem run) W ((tt, tt, tt, a, at), tt) (LL.val F.the-type F′.the-laws (answer s c)) (answer s c) (tt, (tt, tt)) (tt, (tt, tt))) $
-        says ! (λ i. answer (e .0 i) (e .1 i)) $ owned ! F.the-row (Is F.the-row) (LL.makes F.the-type F′.the-plain 𝓤 H A) (answer s c) _ is $
+        says ! (λ i. answer (e .0 i) (e .1 i), e .2) $ owned ! F.the-row (Is F.the-row) (LL.makes F.the-type F′.the-plain 𝓤 H A) (answer s c) _ is $
         nothing ! $ owned ! P.the-row (Is P.the-row) (LL.makes P.the-type P′.the-plain 𝓤 H A) p _ ip $ fjoin ! $ owned ! T.the-row (Is T.the-row) (LL.makes T.the-type T′.the-plain 𝓤 H A) h _ ih $ fjoin ! $ nothing ! $ done !
 
     -- the borrow of the record at l, under the name δ, and what the callee's triple binds outside, at the lifetime ν of the call
