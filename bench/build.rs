@@ -1,5 +1,5 @@
 //! Links the proved program's exports, unless only the tuned program is run.
-//! HEDRAVOS_EXPORTS may give the archive's path; otherwise it is target/staticlib/libexports.a.
+//! HEDRAVOS_EXPORTS may give the archive's path; otherwise it is target/staticlib/libexports.a, as tools/archive makes it.
 
 use std::env;
 use std::path::PathBuf;
@@ -13,7 +13,7 @@ fn main() {
     println!("cargo:rerun-if-changed={}", archive.display());
     if !archive.is_file() {
         panic!(
-            "{} isn't there; set HEDRAVOS_EXPORTS, or use --features baseline-only",
+            "{} isn't there; run tools/archive, set HEDRAVOS_EXPORTS, or use --features baseline-only",
             archive.display()
         );
     }

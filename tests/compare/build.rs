@@ -1,5 +1,5 @@
 //! Links the proved program's exports, unless the second program is compared with itself.
-//! HEDRAVOS_EXPORTS may give the archive's path; otherwise it is target/staticlib/libexports.a.
+//! HEDRAVOS_EXPORTS may give the archive's path; otherwise it is target/staticlib/libexports.a, as tools/archive makes it.
 //! The archive is for x86-64: for another machine it is linked into a server, which src/remote.rs asks.
 
 use std::env;
@@ -15,7 +15,7 @@ fn main() {
     println!("cargo:rerun-if-changed={}", archive.display());
     if !archive.is_file() {
         panic!(
-            "{} isn't there; set HEDRAVOS_EXPORTS, or use --features self-check",
+            "{} isn't there; run tools/archive, set HEDRAVOS_EXPORTS, or use --features self-check",
             archive.display()
         );
     }

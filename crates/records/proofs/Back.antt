@@ -1,33 +1,34 @@
 -- What the words of a record say: read back, they give the record that was put, and words past it stay as they were.
 --
--- In order: four words put; entries put one after the other; the record.
+-- In order: four words put; entries put one after the other; the record in words that are long enough; fewer words; the record.
 -- Assumes nothing.
 use mathlib.Core.Path.{_≡_, refl, sym, ap, ap₂, _∙_}
 use mathlib.Core.List.{List, [], _∷_}
 use mathlib.Core.Logic.{_⊎_, inl, inr, ⊎-elim}
 use Prim.Native.Nat.{ℕ, zero, suc, _+_, _*_, _≤_, _<_}
 use native.Mathlib.Omega.{arith}
+use native.Mathlib.Decide.{decLt}
 use lib.ListN.{length, getD, set, length-set}
 use lib.Seq.{getD-set-same, getD-set-other}
+use mathlib.Core.Bool.{false}
+use borrow.Author.Tests.{lt-ltb, le-ltb}
 use Rattle.paging.specs.Calls.{frameLimit}
 use Rattle.paging.specs.declared.Entry.{Entry}
 use Rattle.cache.specs.declared.Cache.{Cache}
-use Rattle.records.specs.Records.{entryAt, entriesAt, recordOf, putEntry, putEntries, recordInto}
+use Rattle.cache.specs.Sound.{sound}
+use Rattle.records.specs.Records.{recordLength, entryFrom, entriesFrom, recordIn, recordOf, putFour, putEntry, putEntries, recordOver, recordInto}
 
 -- ---- four words put
 
-abbrev four : List ℕ → ℕ → ℕ → ℕ → ℕ → ℕ → List ℕ
-four words at a b c d = set (set (set (set words at a) (at + 1) b) (at + 2) c) (at + 3) d
-
 module _ (words : List ℕ) (at a b c d : ℕ) where
-  pub four-length : length (four words at a b c d) ≡ length words
+  pub four-length : length (putFour at a b c d words) ≡ length words
   four-length =
       length-set (set (set (set words at a) (at + 1) b) (at + 2) c) (at + 3) d
       ∙ length-set (set (set words at a) (at + 1) b) (at + 2) c
       ∙ length-set (set words at a) (at + 1) b
       ∙ length-set words at a
 
-  pub four-kept : (i : ℕ) → (i ≡ at → ⊥) → (i ≡ at + 1 → ⊥) → (i ≡ at + 2 → ⊥) → (i ≡ at + 3 → ⊥) → getD (four words at a b c d) i 0 ≡ getD words i 0
+  pub four-kept : (i : ℕ) → (i ≡ at → ⊥) → (i ≡ at + 1 → ⊥) → (i ≡ at + 2 → ⊥) → (i ≡ at + 3 → ⊥) → getD (putFour at a b c d words) i 0 ≡ getD words i 0
   four-kept i e f g h =
       getD-set-other (set (set (set words at a) (at + 1) b) (at + 2) c) (at + 3) i d 0 h
       ∙ getD-set-other (set (set words at a) (at + 1) b) (at + 2) i c 0 g
@@ -35,10 +36,10 @@ module _ (words : List ℕ) (at a b c d : ℕ) where
       ∙ getD-set-other words at i a 0 e
 
   module _ (fits : at + 4 ≤ length words) where
-    pub four-back : (getD (four words at a b c d) at 0 ≡ a)
-        × (getD (four words at a b c d) (at + 1) 0 ≡ b)
-        × (getD (four words at a b c d) (at + 2) 0 ≡ c)
-        × (getD (four words at a b c d) (at + 3) 0 ≡ d)
+    pub four-back : (getD (putFour at a b c d words) at 0 ≡ a)
+        × (getD (putFour at a b c d words) (at + 1) 0 ≡ b)
+        × (getD (putFour at a b c d words) (at + 2) 0 ≡ c)
+        × (getD (putFour at a b c d words) (at + 3) 0 ≡ d)
     four-back =
         let one = set words at a in
         let two = set one (at + 1) b in
@@ -79,11 +80,11 @@ entries-length (e ∷ es) words at = entries-length es (putEntry at e words) (at
 
 -- the entry that stands at a place is made of the four words there
 entry-is : (e : Entry) (words : List ℕ) (at : ℕ) → getD words at 0 ≡ e .page .0 → getD words (at + 1) 0 ≡ e .loaded .0 → getD words (at + 2) 0 ≡ e .last .0 → getD words (at + 3) 0 ≡ e .earlier .0
-    → entryAt words at ≡ e
+    → entryFrom words at ≡ e
 entry-is e words at p l t s = rw (p, l, t, s) refl
 
-pub entries-back : (es : List Entry) (words : List ℕ) (at : ℕ) → at + 4 * length es ≤ length words → entriesAt (putEntries at es words) at (length es) ≡ es
-unfolding putEntries entriesAt
+pub entries-back : (es : List Entry) (words : List ℕ) (at : ℕ) → at + 4 * length es ≤ length words → entriesFrom (putEntries at es words) at (length es) ≡ es
+unfolding putEntries entriesFrom
 entries-back [] words at fits = refl
 entries-back (e ∷ es) words at fits =
     let put = four-back words at (e .page .0) (e .loaded .0) (e .last .0) (e .earlier .0) (omega arith) in
@@ -97,28 +98,68 @@ entries-back (e ∷ es) words at fits =
     kept : (i : ℕ) → i < at + 4 → getD after i 0 ≡ getD (putEntry at e words) i 0
     kept i b = entries-keep es (putEntry at e words) (at + 4) i (inl b)
 
--- ---- the record
+-- ---- the record in words that are long enough
+
+pub long-into : (c : Cache) (words : List ℕ) → recordLength ≤ length words → recordInto c words ≡ recordOver c words
+unfolding recordInto
+long-into c words fits = rw (le-ltb (length words) recordLength fits) refl
+
+pub long-of : (words : List ℕ) → recordLength ≤ length words → recordOf words ≡ recordIn words
+unfolding recordOf
+long-of words fits = rw (le-ltb (length words) recordLength fits) refl
 
 module _ (c : Cache) (words : List ℕ) where
-  -- a record put into words that have room for it is read back as it was
-  pub record-back : length (c .entries) ≡ frameLimit → 1028 ≤ length words → recordOf (recordInto c words) ≡ c
-  unfolding recordOf recordInto
-  record-back size fits =
+  abbrev head : List ℕ
+  head = putFour 0 (c .rule) (c .frames) (c .clock) (c .held) words
+
+  over-length : length (recordOver c words) ≡ length words
+  unfolding recordOver
+  over-length = entries-length (c .entries) head 4 ∙ four-length words 0 (c .rule) (c .frames) (c .clock) (c .held)
+
+  over-back : length (c .entries) ≡ frameLimit → recordLength ≤ length words → recordIn (recordOver c words) ≡ c
+  unfolding recordIn recordOver
+  over-back size fits =
       let put = four-back words 0 (c .rule) (c .frames) (c .clock) (c .held) (omega arith) in
       let long : length head ≡ length words = four-length words 0 (c .rule) (c .frames) (c .clock) (c .held) in
-      let entries : entriesAt (putEntries 4 (c .entries) head) 4 frameLimit ≡ c .entries =
-      ap (λ (k : ℕ). entriesAt (putEntries 4 (c .entries) head) 4 k) (sym size) ∙ entries-back (c .entries) head 4 (omega (arith, size, long)) in
+      let entries : entriesFrom (putEntries 4 (c .entries) head) 4 frameLimit ≡ c .entries =
+      ap (λ (k : ℕ). entriesFrom (putEntries 4 (c .entries) head) 4 k) (sym size) ∙ entries-back (c .entries) head 4 (omega (arith, size, long)) in
       rw (kept 0 (omega arith) ∙ put .0, kept 1 (omega arith) ∙ put .1, kept 2 (omega arith) ∙ put .2, kept 3 (omega arith) ∙ put .3, entries) refl
     where
-      head : List ℕ
-      head = four words 0 (c .rule) (c .frames) (c .clock) (c .held)
-
       kept : (i : ℕ) → i < 4 → getD (putEntries 4 (c .entries) head) i 0 ≡ getD head i 0
       kept i b = entries-keep (c .entries) head 4 i (inl b)
 
-  -- and words past its 1,028 stay as they were
-  pub record-past : length (c .entries) ≡ frameLimit → (i : ℕ) → 1028 ≤ i → getD (recordInto c words) i 0 ≡ getD words i 0
-  unfolding recordInto
-  record-past size i h =
-      entries-keep (c .entries) (four words 0 (c .rule) (c .frames) (c .clock) (c .held)) 4 i (inr (omega (arith, size)))
+  over-past : length (c .entries) ≡ frameLimit → (i : ℕ) → recordLength ≤ i → getD (recordOver c words) i 0 ≡ getD words i 0
+  unfolding recordOver
+  over-past size i h =
+      entries-keep (c .entries) head 4 i (inr (omega (arith, size)))
       ∙ four-kept words 0 (c .rule) (c .frames) (c .clock) (c .held) i (λ e. omega arith) (λ e. omega arith) (λ e. omega arith) (λ e. omega arith)
+
+-- ---- fewer words
+
+module _ (words : List ℕ) (few : length words < recordLength) where
+  -- hold no sound record
+  pub short-unsound : sound (recordOf words) ≡ false
+  unfolding recordOf sound
+  short-unsound = rw (lt-ltb (length words) recordLength few) refl
+
+  -- and nothing is put into them
+  pub short-kept : (c : Cache) → recordInto c words ≡ words
+  unfolding recordInto
+  short-kept c = rw (lt-ltb (length words) recordLength few) refl
+
+-- ---- the record
+
+module _ (c : Cache) (words : List ℕ) (size : length (c .entries) ≡ frameLimit) where
+  -- a record put into words that have room for it is read back as it was
+  pub record-back : recordLength ≤ length words → recordOf (recordInto c words) ≡ c
+  record-back fits =
+      let there : recordLength ≤ length (recordOver c words) = omega (arith, over-length c words) in
+      ap recordOf (long-into c words fits) ∙ long-of (recordOver c words) there ∙ over-back c words size fits
+
+  -- and words past its own stay as they were
+  pub record-past : (i : ℕ) → recordLength ≤ i → getD (recordInto c words) i 0 ≡ getD words i 0
+  record-past i h =
+      elim (decLt (length words) recordLength) [
+        | yes few ↦ ap (λ (xs : List ℕ). getD xs i 0) (short-kept words few c)
+        | no long ↦ ap (λ (xs : List ℕ). getD xs i 0) (long-into c words (omega arith)) ∙ over-past c words size i h
+      ]

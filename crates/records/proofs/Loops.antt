@@ -7,30 +7,24 @@ use native.Mathlib.Omega.{arith}
 use lib.ListN.{length, getD, take, drop, set, drop-of-length-le}
 use lib.Seq.{take-suc-set, take-length, drop-cons}
 use Rattle.paging.specs.declared.Entry.{Entry}
-use Rattle.records.specs.Records.{entryAt, entriesAt, putEntry, putEntries}
-
--- past the end a list reads as zeros
-pub past : (l : List ℕ) (i : ℕ) → length l ≤ i → 0 ≡ getD l i 0
-past [] i h = refl
-past (x ∷ xs) zero h = absurd (omega arith)
-past (x ∷ xs) (suc i) h = past xs i (omega arith)
+use Rattle.records.specs.Records.{entryFrom, entriesFrom, putEntry, putEntries}
 
 pub read-on : (words : List ℕ) (es : List Entry) (n i : ℕ) (all : List Entry) → i < n → i < length es
-    → take i es ++ entriesAt words (4 + 4 * i) (n - i) ≡ all
-    → take (i + 1) (set es i (entryAt words (4 + 4 * i))) ++ entriesAt words (4 + 4 * (i + 1)) (n - (i + 1)) ≡ all
-unfolding entriesAt
+    → take i es ++ entriesFrom words (4 + 4 * i) (n - i) ≡ all
+    → take (i + 1) (set es i (entryFrom words (4 + 4 * i))) ++ entriesFrom words (4 + 4 * (i + 1)) (n - (i + 1)) ≡ all
+unfolding entriesFrom
 read-on words es n i all h k e =
     let f : n - i ≡ suc (n - (i + 1)) = omega arith in
     let g : 4 + 4 * (i + 1) ≡ 4 + 4 * i + 4 = omega arith in
     let s : i + 1 ≡ suc i = omega arith in
-    let t : take (i + 1) (set es i (entryAt words (4 + 4 * i))) ≡ take i es ++ (entryAt words (4 + 4 * i) ∷ []) = rw s (take-suc-set es i (entryAt words (4 + 4 * i)) k) in
-    let u : take i es ++ (entryAt words (4 + 4 * i) ∷ entriesAt words (4 + 4 * i + 4) (n - (i + 1))) ≡ all = rw (← e, f) refl in
-    rw (t, g, append-assoc (take i es) (entryAt words (4 + 4 * i) ∷ []) (entriesAt words (4 + 4 * i + 4) (n - (i + 1)))) u
+    let t : take (i + 1) (set es i (entryFrom words (4 + 4 * i))) ≡ take i es ++ (entryFrom words (4 + 4 * i) ∷ []) = rw s (take-suc-set es i (entryFrom words (4 + 4 * i)) k) in
+    let u : take i es ++ (entryFrom words (4 + 4 * i) ∷ entriesFrom words (4 + 4 * i + 4) (n - (i + 1))) ≡ all = rw (← e, f) refl in
+    rw (t, g, append-assoc (take i es) (entryFrom words (4 + 4 * i) ∷ []) (entriesFrom words (4 + 4 * i + 4) (n - (i + 1)))) u
 
 pub read-all : (words : List ℕ) (es : List Entry) (n i : ℕ) (all : List Entry) → n ≤ i → i ≤ n → length es ≡ n
-    → take i es ++ entriesAt words (4 + 4 * i) (n - i) ≡ all
+    → take i es ++ entriesFrom words (4 + 4 * i) (n - i) ≡ all
     → es ≡ all
-unfolding entriesAt
+unfolding entriesFrom
 read-all words es n i all h k l e =
     let f : n - i ≡ 0 = omega arith in
     let g : i ≡ length es = omega arith in

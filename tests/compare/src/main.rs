@@ -46,6 +46,10 @@ const GROUPS: &[Group] = &[
     ("shared moment", records::shared_moments),
     #[cfg(feature = "records")]
     ("last request", records::last_requests),
+    #[cfg(feature = "records")]
+    ("short record", records::short_records),
+    #[cfg(feature = "records")]
+    ("short room", records::short_rooms),
     ("read", bundles::reads),
     ("cut", bundles::cuts),
     ("damaged file", bundles::damaged_files),
@@ -127,6 +131,7 @@ mod tests {
         for _ in 0..500 {
             assert!(second::sound(&record_cases::drawn(&mut rng)));
             assert!(second::sound(&record_cases::from_run(&mut rng)));
+            assert!(second::sound(&record_cases::ends_in_zero(&mut rng)));
         }
         for kind in 0..record_cases::DAMAGES {
             let mut unsound = 0;

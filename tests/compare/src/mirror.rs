@@ -1,7 +1,7 @@
 //! The second program behind the same C functions, so that the comparison can try itself.
 //! It can be told to make one mistake; the comparison must then find it.
 
-use second::{Record, Reply, MARK};
+use second::{Outcome, Record, Reply, MARK, RECORD_WORDS};
 use std::slice::{from_raw_parts, from_raw_parts_mut};
 use std::sync::atomic::{AtomicU32, Ordering};
 
@@ -14,7 +14,7 @@ fn mistake(number: u32) -> bool {
 
 /// Each mistake, the group of cases that must find it, and what it is.
 #[cfg(test)]
-pub const MISTAKES: [(u32, &str, &str); 34] = [
+pub const MISTAKES: [(u32, &str, &str); 41] = [
     (1, "count", "a hit renews a page in FIFO"),
     (2, "plan", "MIN drops the highest of the dead pages"),
     (3, "plan", "the word after the plan is written"),
@@ -73,6 +73,29 @@ pub const MISTAKES: [(u32, &str, &str); 34] = [
         "count",
         "LRU-2 remembers what a page did before it was dropped",
     ),
+    (
+        35,
+        "short record",
+        "1,027 words are read as if a zero followed",
+    ),
+    (36, "short record", "1,027 words are fed all the same"),
+    (
+        37,
+        "short record",
+        "for too few words a blank record is handed back",
+    ),
+    (38, "short room", "6 comes before 1 and 2 in Fresh"),
+    (
+        39,
+        "short room",
+        "a record is begun though there is no room",
+    ),
+    (40, "short room", "6 comes before 8 in Feed"),
+    (
+        41,
+        "short room",
+        "an accepted Feed without room is not refused",
+    ),
 ];
 
 unsafe fn list<'a, T>(start: *const T, length: usize) -> &'a [T] {
@@ -83,21 +106,25 @@ unsafe fn lent<'a, T>(start: *mut T, length: usize) -> &'a mut [T] {
     from_raw_parts_mut(start, length)
 }
 
+/// The record in words; past their end stand zeros.
 fn record_of(words: &[u32]) -> Record {
+    let word = |place: usize| words.get(place).copied().unwrap_or(0);
     let mut record = second::blank();
-    record.rule = words[0];
-    record.frames = words[1];
-    record.clock = words[2];
-    record.held = words[3];
+    record.rule = word(0);
+    record.frames = word(1);
+    record.clock = word(2);
+    record.held = word(3);
     for frame in 0..256 {
-        let start = 4 + 4 * frame;
-        record.entries[frame].copy_from_slice(&words[start..start + 4]);
+        for part in 0..4 {
+            record.entries[frame][part] = word(4 + 4 * frame + part);
+        }
     }
     record
 }
 
+/// Puts a record into the front of words that have room for it.
 fn lay_out(record: &Record, words: &mut [u32]) {
-    words.copy_from_slice(&crate::record_cases::words_of(record));
+    words[..RECORD_WORDS].copy_from_slice(&crate::record_cases::words_of(record));
 }
 
 fn put(answer: &mut [u32], reply: Reply) {
@@ -297,14 +324,20 @@ unsafe extern "C" fn hedravos_fresh(
     answer: *mut u32,
     answer_len: usize,
 ) {
-    let (mut number, place, mut made) = second::fresh(rule, n);
+    let words = lent(record, record_len);
+    let (mut number, place) = second::fresh_words(rule, n, words);
     if mistake(11) && number == 2 && n == 257 {
         number = 0;
     }
-    if mistake(12) && number != 0 {
-        made.rule = rule;
+    if mistake(12) && number != 0 && record_len >= RECORD_WORDS {
+        words[0] = rule;
     }
-    lay_out(&made, lent(record, record_len));
+    if mistake(38) && record_len < RECORD_WORDS {
+        number = 6;
+    }
+    if mistake(39) && number == 6 && record_len > 0 {
+        words[0] = rule;
+    }
     lent(answer, answer_len).copy_from_slice(&[number, place]);
 }
 
@@ -315,7 +348,8 @@ unsafe extern "C" fn hedravos_sound(
     answer: *mut u32,
     answer_len: usize,
 ) {
-    let mut judged = record_of(list(record, record_len));
+    let words = list(record, record_len);
+    let mut judged = record_of(words);
     if mistake(13) && judged.held <= 256 {
         judged.entries[judged.held as usize..].fill([MARK; 4]);
     }
@@ -332,6 +366,9 @@ unsafe extern "C" fn hedravos_sound(
         two.entries[0] = judged.entries[1];
         sound = second::sound(&one) && second::sound(&two);
     }
+    if record_len < RECORD_WORDS && !mistake(35) {
+        sound = second::sound_words(words);
+    }
     lent(answer, answer_len).copy_from_slice(&[u32::from(sound)]);
 }
 
@@ -345,31 +382,65 @@ unsafe extern "C" fn hedravos_feed(
     answer: *mut u32,
     answer_len: usize,
 ) {
-    let given = record_of(list(record, record_len));
-    let mut fed = second::feed(&given, page);
-    if mistake(15) && given.rule == second::LRU && fed.number == 0 {
+    let words = list(record, record_len);
+    let room = lent(next, next_len);
+    let mut told = second::feed_words(words, page, room);
+    if next_len >= RECORD_WORDS && record_len >= RECORD_WORDS {
+        mistakes_of_feed(&record_of(words), room, &mut told);
+    }
+    mistakes_of_length(words, page, room, &mut told);
+    let numbers = [told.number, told.place, told.kind, told.page];
+    lent(answer, answer_len).copy_from_slice(&numbers);
+}
+
+/// Mistakes in the reply, and in the next record, which stands in the room.
+fn mistakes_of_feed(given: &Record, room: &mut [u32], told: &mut Outcome) {
+    let mut next = record_of(room);
+    if mistake(15) && given.rule == second::LRU && told.number == 0 {
         for frame in 0..256 {
-            if fed.next.entries[frame][0] == given.entries[frame][0] {
-                fed.next.entries[frame][3] = given.entries[frame][3];
+            if next.entries[frame][0] == given.entries[frame][0] {
+                next.entries[frame][3] = given.entries[frame][3];
             }
         }
     }
-    if mistake(16) && fed.number != 0 {
-        fed.page = 0;
+    if mistake(16) && told.number != 0 {
+        told.page = 0;
     }
-    if mistake(17) && fed.number == 4 && given.clock == 8_000 {
-        fed.number = 8;
+    if mistake(17) && told.number == 4 && given.clock == 8_000 {
+        told.number = 8;
     }
-    if mistake(18) && fed.number == 0 && given.clock == 7_999 {
-        fed.number = 8;
-        fed.next = given;
+    if mistake(18) && told.number == 0 && given.clock == 7_999 {
+        told.number = 8;
+        next = *given;
     }
-    if mistake(32) && fed.kind == 2 && fed.next.entries[0][3] != MARK {
-        fed.next.entries[0][1] = fed.next.entries[0][3];
+    if mistake(32) && told.kind == 2 && next.entries[0][3] != MARK {
+        next.entries[0][1] = next.entries[0][3];
     }
-    lay_out(&fed.next, lent(next, next_len));
-    let words = [fed.number, fed.place, fed.kind, fed.page];
-    lent(answer, answer_len).copy_from_slice(&words);
+    lay_out(&next, room);
+}
+
+/// Mistakes with too few words, of the record or of the room for the next one.
+fn mistakes_of_length(words: &[u32], page: u32, room: &mut [u32], told: &mut Outcome) {
+    if words.len() < RECORD_WORDS {
+        let fed = second::feed(&record_of(words), page);
+        if mistake(36) {
+            told.number = fed.number;
+        }
+        if mistake(37) && room.len() >= RECORD_WORDS {
+            lay_out(&second::blank(), room);
+        }
+    }
+    if room.len() < RECORD_WORDS {
+        if mistake(39) && told.number == 6 && !room.is_empty() {
+            room[0] = words[0];
+        }
+        if mistake(40) && told.number == 8 {
+            told.number = 6;
+        }
+        if mistake(41) && told.number == 6 {
+            told.number = 0;
+        }
+    }
 }
 
 #[cfg(feature = "own-record")]
@@ -381,12 +452,9 @@ unsafe extern "C" fn hedravos_feed_own(
     answer: *mut u32,
     answer_len: usize,
 ) {
-    let words = lent(record, record_len);
-    let mut own = record_of(words);
-    let outcome = second::feed_own(&mut own, page);
-    lay_out(&own, words);
-    let words = [outcome.number, outcome.place, outcome.kind, outcome.page];
-    lent(answer, answer_len).copy_from_slice(&words);
+    let told = second::feed_own_words(lent(record, record_len), page);
+    let numbers = [told.number, told.place, told.kind, told.page];
+    lent(answer, answer_len).copy_from_slice(&numbers);
 }
 
 #[no_mangle]

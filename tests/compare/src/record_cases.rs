@@ -39,6 +39,21 @@ pub fn from_run(rng: &mut Rng) -> Record {
     record
 }
 
+/// A sound record with all 256 frames held whose last word is 0: with that word lost and a zero
+/// read in its place it would pass for sound.
+pub fn ends_in_zero(rng: &mut Rng) -> Record {
+    let mut record = second::blank();
+    record.rule = feedable_rule(rng);
+    record.frames = 256;
+    record.held = 256;
+    record.clock = rng.pick(&[257, 600, 7_999]);
+    for frame in 0..255 {
+        record.entries[frame as usize] = [1_000 + frame, 1 + frame, 1 + frame, MARK];
+    }
+    record.entries[255] = [rng.below(900) as u32, 0, record.clock - 1, 0];
+    record
+}
+
 /// A sound record with moments drawn by lot: often room is left though much has happened,
 /// and the frames aren't in the order of loading.
 pub fn drawn(rng: &mut Rng) -> Record {

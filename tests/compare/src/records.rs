@@ -1,4 +1,4 @@
-//! Comparison of Fresh, Feed and soundness, each record as 1,028 lent words.
+//! Comparison of Fresh, Feed and soundness, each record in lent words, also in too few of them.
 //! With the feature own-record, the thin form of Feed is fed the same requests.
 
 use crate::cases::{self, Rng};
@@ -8,81 +8,99 @@ use crate::record_cases::{self, words_of, DAMAGES};
 use second::{Record, MARK};
 
 fn compare_fresh(tally: &mut Tally, rule: u32, n: u32) {
-    let (number, place, record) = second::fresh(rule, n);
+    compare_fresh_words(tally, rule, n, answer(RECORD_WORDS).part());
+}
+
+/// Fresh with this room lent for its record.
+fn compare_fresh_words(tally: &mut Tally, rule: u32, n: u32, room: &[u32]) {
+    let mut our_record = room.to_vec();
+    let (number, place) = second::fresh_words(rule, n, &mut our_record);
     let mut theirs = answer(2);
-    let mut their_record = answer(RECORD_WORDS);
+    let mut their_record = words(room);
     judge::fresh(rule, n, their_record.part_mut(), theirs.part_mut());
-    let right = theirs.is(&[number, place]) && their_record.is(&words_of(&record));
+    let right = theirs.is(&[number, place]) && their_record.is(&our_record);
     tally.case(right, || {
         format!(
-            "fresh rule {rule} n {n}: {:?}, not {number} {place}; record {}",
+            "fresh rule {rule} n {n} room {}: {:?}, not {number} {place}; record {}",
+            room.len(),
             theirs.part(),
-            difference(their_record.part(), &words_of(&record))
+            difference(their_record.part(), &our_record)
         )
     });
 }
 
 fn compare_sound(tally: &mut Tally, record: &Record) {
-    let ours = u32::from(second::sound(record));
-    let lent = words(&words_of(record));
+    compare_sound_words(tally, &words_of(record));
+}
+
+fn compare_sound_words(tally: &mut Tally, given: &[u32]) {
+    let ours = u32::from(second::sound_words(given));
+    let lent = words(given);
     let mut theirs = answer(1);
     judge::sound(lent.part(), theirs.part_mut());
-    let right = theirs.is(&[ours]) && lent.is(&words_of(record));
+    let right = theirs.is(&[ours]) && lent.is(given);
     tally.case(right, || {
-        format!("sound {}: {:?}, not {ours}", tell(record), theirs.part())
+        format!("sound {}: {:?}, not {ours}", tell(given), theirs.part())
     });
 }
 
 /// Feeds one page to both, and answers the second program's next record.
 fn compare_feed(tally: &mut Tally, record: &Record, page: u32) -> Record {
-    let ours = second::feed(record, page);
-    let our_answer = [ours.number, ours.place, ours.kind, ours.page];
-    let lent = words(&words_of(record));
-    let mut next = answer(RECORD_WORDS);
+    let given = words_of(record);
+    compare_feed_words(tally, &given, page, answer(RECORD_WORDS).part());
+    compare_own_words(tally, &given, page);
+    second::feed(record, page).next
+}
+
+/// Feed with this room lent for the next record.
+fn compare_feed_words(tally: &mut Tally, given: &[u32], page: u32, room: &[u32]) {
+    let mut our_next = room.to_vec();
+    let ours = second::feed_words(given, page, &mut our_next);
+    let ours = [ours.number, ours.place, ours.kind, ours.page];
+    let lent = words(given);
+    let mut next = words(room);
     let mut theirs = answer(4);
     judge::feed(lent.part(), page, next.part_mut(), theirs.part_mut());
-    let our_next = words_of(&ours.next);
-    let kept = lent.is(&words_of(record));
-    let right = theirs.is(&our_answer) && next.is(&our_next) && kept;
+    let right = theirs.is(&ours) && next.is(&our_next) && lent.is(given);
     tally.case(right, || {
         format!(
-            "feed page {page} to {}: {:?}, not {our_answer:?}; next record {}",
-            tell(record),
+            "feed page {page} to {}, room {}: {:?}, not {ours:?}; next record {}",
+            tell(given),
+            room.len(),
             theirs.part(),
             difference(next.part(), &our_next)
         )
     });
-    compare_own(tally, record, page);
-    ours.next
 }
 
 #[cfg(feature = "own-record")]
-fn compare_own(tally: &mut Tally, record: &Record, page: u32) {
-    let mut our_record = *record;
-    let ours = second::feed_own(&mut our_record, page);
+fn compare_own_words(tally: &mut Tally, given: &[u32], page: u32) {
+    let mut our_record = given.to_vec();
+    let ours = second::feed_own_words(&mut our_record, page);
     let ours = [ours.number, ours.place, ours.kind, ours.page];
-    let mut lent = words(&words_of(record));
+    let mut lent = words(given);
     let mut theirs = answer(4);
     judge::feed_own(lent.part_mut(), page, theirs.part_mut());
-    let right = theirs.is(&ours) && lent.is(&words_of(&our_record));
+    let right = theirs.is(&ours) && lent.is(&our_record);
     tally.case(right, || {
         format!(
             "own record, page {page} to {}: {:?}, not {ours:?}; record {}",
-            tell(record),
+            tell(given),
             theirs.part(),
-            difference(lent.part(), &words_of(&our_record))
+            difference(lent.part(), &our_record)
         )
     });
 }
 
 #[cfg(not(feature = "own-record"))]
-fn compare_own(_tally: &mut Tally, _record: &Record, _page: u32) {}
+fn compare_own_words(_tally: &mut Tally, _given: &[u32], _page: u32) {}
 
-fn tell(record: &Record) -> String {
-    let some = &record.entries[..(record.held as usize).min(6)];
+/// The front of a record's words, and how many there are.
+fn tell(given: &[u32]) -> String {
     format!(
-        "rule {} frames {} clock {} held {} entries {some:?}",
-        record.rule, record.frames, record.clock, record.held
+        "{:?} of {} words",
+        &given[..given.len().min(28)],
+        given.len()
     )
 }
 
@@ -215,6 +233,71 @@ pub fn last_requests(tally: &mut Tally) {
                     compare_sound(tally, &record);
                     compare_feed(tally, &record, page);
                 }
+            }
+        }
+    }
+}
+
+/// How many words are lent for a record: one too few and fewer, just enough, and more.
+const LENGTHS: [usize; 12] = [0, 1, 3, 4, 5, 100, 1_023, 1_024, 1_027, 1_028, 1_029, 1_100];
+
+/// So many words of a record; past its end some others.
+fn cut_to(rng: &mut Rng, record: &Record, length: usize) -> Vec<u32> {
+    let mut given = words_of(record);
+    while given.len() < length {
+        given.push(rng.word());
+    }
+    given.truncate(length);
+    given
+}
+
+/// Records in too few words, and with words behind them that aren't theirs.
+pub fn short_records(tally: &mut Tally) {
+    let mut rng = Rng::new(205);
+    for case in 0..120 {
+        let record = match case % 4 {
+            0 => record_cases::ends_in_zero(&mut rng),
+            1 => second::blank(),
+            2 => record_cases::from_run(&mut rng),
+            _ => record_cases::drawn(&mut rng),
+        };
+        for length in LENGTHS {
+            let given = cut_to(&mut rng, &record, length);
+            compare_sound_words(tally, &given);
+            for page in [record_cases::page(&mut rng, &record), MARK] {
+                compare_feed_words(tally, &given, page, answer(RECORD_WORDS).part());
+                compare_own_words(tally, &given, page);
+            }
+        }
+    }
+}
+
+/// Room that is too small for a record or larger than one, with 6 behind every other refusal.
+pub fn short_rooms(tally: &mut Tally) {
+    let mut rng = Rng::new(206);
+    for length in LENGTHS {
+        let room: Vec<u32> = (0..length).map(|_| rng.word()).collect();
+        for rule in 0..=5 {
+            for n in [0, 1, 3, 256, 257] {
+                compare_fresh_words(tally, rule, n, &room);
+            }
+        }
+        for case in 0..60 {
+            let mut record = match case % 3 {
+                0 => record_cases::ends_in_zero(&mut rng),
+                1 => record_cases::from_run(&mut rng),
+                _ => record_cases::drawn(&mut rng),
+            };
+            if rng.one_in(4) {
+                record.clock = 8_000;
+            }
+            if rng.one_in(6) {
+                record.rule = 3;
+            }
+            let own = rng.pick(&LENGTHS);
+            let given = cut_to(&mut rng, &record, own.max(RECORD_WORDS - 1));
+            for page in [record_cases::page(&mut rng, &record), MARK] {
+                compare_feed_words(tally, &given, page, &room);
             }
         }
     }

@@ -9,12 +9,14 @@ mod plans;
 mod record;
 mod report;
 mod rules;
+mod words;
 
 pub use bundle::{read_bundle, write_bundle, ReadReply, WriteReply};
 pub use plans::{better, better_words, check, Verdict};
 pub use record::{blank, feed, feed_own, fresh, sound, Fed, Outcome, Record};
 pub use report::report;
 pub use rules::{count, write_plan};
+pub use words::{feed_own_words, feed_words, fresh_words, sound_words, RECORD_WORDS};
 
 /// "No page" or "no moment", according to the field.
 pub const MARK: u32 = 4_294_967_295;

@@ -5,36 +5,37 @@ use mathlib.Core.Path.{_≡_, refl, _∙_}
 use Prim.Native.Nat.{_+_, _*_, _-_, _≤_, _<_}
 use native.Mathlib.Omega.{arith}
 use lib.ListN.{length, drop}
+use Rattle.paging.specs.Calls.{frameLimit}
 use Rattle.cache.proofs.Long.{long}
 use Rattle.records.specs.Records.{putEntries}
-use Rattle.records.proofs.Back.{put-length}
+use Rattle.records.proofs.Back.{four-length}
 use Rattle.records.proofs.Loops.{put-on, put-all}
 use Rattle.records.proofs.put_entries.Statement.{statement}
 use Rattle.records.proofs.put_entries.Tie as tie
 
 abbrev Inv-loop : tie.InvT-loop
-Inv-loop words₀ cache i₀ words i = (i ≤ 256) × (length words ≡ length words₀) × (putEntries (4 + 4 * i) (drop i (cache .entries)) words ≡ putEntries 4 (cache .entries) words₀)
+Inv-loop words₀ cache i₀ words i = (i ≤ frameLimit) × (length words ≡ length words₀) × (putEntries (4 + 4 * i) (drop i (cache .entries)) words ≡ putEntries 4 (cache .entries) words₀)
 
 abbrev μ-loop : tie.MeasureT-loop
-μ-loop words₀ cache i₀ words i = 256 - i
+μ-loop words₀ cache i₀ words i = frameLimit - i
 
 loop-holds : tie.Need-loop-holds Inv-loop μ-loop
 loop-holds c = (omega arith, refl, refl)
 
-mul-put-entry : tie.Need-mul-put-entry Inv-loop μ-loop
-mul-put-entry c = search needs
+mul-e : tie.Need-mul-e Inv-loop μ-loop
+mul-e c = search needs
 
-add-put-entry : tie.Need-add-put-entry Inv-loop μ-loop
-add-put-entry c = search needs
+element-copy-out-e : tie.Need-element-copy-out-e Inv-loop μ-loop
+element-copy-out-e c = search needs
 
-mul-put-entry-2 : tie.Need-mul-put-entry-2 Inv-loop μ-loop
-mul-put-entry-2 c = search needs
+mul-put-four : tie.Need-mul-put-four Inv-loop μ-loop
+mul-put-four c = search needs
 
-element-copy-out-put-entry : tie.Need-element-copy-out-put-entry Inv-loop μ-loop
-element-copy-out-put-entry c = search needs
+add-put-four : tie.Need-add-put-four Inv-loop μ-loop
+add-put-four c = search needs
 
-put-entry-requires : tie.Need-put-entry-requires Inv-loop μ-loop
-put-entry-requires c κs = search needs
+put-four-requires : tie.Need-put-four-requires Inv-loop μ-loop
+put-four-requires c κs = search needs
 
 add-i : tie.Need-add-i Inv-loop μ-loop
 add-i c = search needs
@@ -44,10 +45,13 @@ loop-less c = search needs
 
 loop-again : tie.Need-loop-again Inv-loop μ-loop
 loop-again c =
-    let h : c .before .before .before .before .before .before .loop .i < length (c .before .before .before .before .before .before .before .before .args .t1 .entries) = omega (arith, long (c .before .before .before .before .before .before .before .before .args .t1) _ (c .before .before .before .before .before .before .before .before .good .0)) in (
+    let p = c .before .before in
+    let l = p .before .before .before .before in
+    let s = l .before .before in
+    let h : l .loop .i < length (s .args .t1 .entries) = omega (arith, long (s .args .t1) _ (s .good .0)) in (
       omega arith,
-      rw (c .before .before .put-entry .ensures) (put-length _ _ (c .before .before .before .before .before .before .loop .words) ∙ c .before .before .before .before .before .before .loop .inv .1),
-      rw (c .before .before .put-entry .ensures) (put-on (c .before .before .before .before .before .before .before .before .args .t1 .entries) _ (c .before .before .before .before .before .before .loop .i) (c .before .before .before .before .before .before .loop .words) _ h (c .before .before .before .before .before .before .loop .inv .2)),
+      rw (p .put-four .ensures) (four-length (l .loop .words) _ _ _ _ _ ∙ l .loop .inv .1),
+      rw (p .put-four .ensures) (put-on (s .args .t1 .entries) _ (l .loop .i) (l .loop .words) _ h (l .loop .inv .2)),
     )
 
 same-length : tie.Need-same-length Inv-loop μ-loop
@@ -55,8 +59,10 @@ same-length c = c .before .loop .inv .1
 
 returns : tie.Need-returns Inv-loop μ-loop
 returns c =
-    let h : length (c .before .before .before .args .t1 .entries) ≤ c .before .loop .i = omega (arith, long (c .before .before .before .args .t1) _ (c .before .before .before .good .0)) in
-    put-all (c .before .before .before .args .t1 .entries) (c .before .loop .i) (4 + 4 * c .before .loop .i) (c .before .loop .words) _ h (c .before .loop .inv .2)
+    let l = c .before in
+    let s = l .before .before in
+    let h : length (s .args .t1 .entries) ≤ l .loop .i = omega (arith, long (s .args .t1) _ (s .good .0)) in
+    put-all (s .args .t1 .entries) (l .loop .i) (4 + 4 * l .loop .i) (l .loop .words) _ h (l .loop .inv .2)
 
 pub put-entries-spec : {M : Type 1} → statement M
 put-entries-spec =
@@ -65,11 +71,11 @@ put-entries-spec =
     Inv-loop
     μ-loop
     loop-holds
-    mul-put-entry
-    add-put-entry
-    mul-put-entry-2
-    element-copy-out-put-entry
-    put-entry-requires
+    mul-e
+    element-copy-out-e
+    mul-put-four
+    add-put-four
+    put-four-requires
     add-i
     loop-less
     loop-again

@@ -1,22 +1,20 @@
 -- `records::record_into` meets its contract.
 -- Assumes nothing.
 use borrow.Author.Needs.{needs}
-use mathlib.Core.Path.{refl}
-use Rattle.records.specs.Records.{recordInto}
+use mathlib.Core.Path.{sym}
+use native.Mathlib.Omega.{arith}
+use Rattle.records.specs.Records.{recordOver}
+use Rattle.records.proofs.Back.{short-kept, long-into}
 use Rattle.records.proofs.record_into.Statement.{statement}
 use Rattle.records.proofs.record_into.Tie as tie
 
-put-requires : tie.Need-put-requires
-put-requires c κs = search needs
+returns : tie.Need-returns
+returns c =
+    let s = c .before .before in
+    sym (short-kept (s .args .words .now) (omega arith) _)
 
-put-requires-2 : tie.Need-put-requires-2
-put-requires-2 c κs = search needs
-
-put-requires-3 : tie.Need-put-requires-3
-put-requires-3 c κs = search needs
-
-put-requires-4 : tie.Need-put-requires-4
-put-requires-4 c κs = search needs
+put-four-requires : tie.Need-put-four-requires
+put-four-requires c κs = search needs
 
 put-entries-requires : tie.Need-put-entries-requires
 put-entries-requires c κs = search needs
@@ -24,18 +22,12 @@ put-entries-requires c κs = search needs
 same-length : tie.Need-same-length
 same-length c = search needs
 
-returns : tie.Need-returns
-unfolding recordInto
-returns c = rw (c .before .before .put-entries .ensures, c .before .before .before .before .before .before .put4 .ensures, c .before .before .before .before .before .before .before .before .before .before .put3 .ensures, c .before .before .before .before .before .before .before .before .before .before .before .before .before .before .put2 .ensures, c .before .before .before .before .before .before .before .before .before .before .before .before .before .before .before .before .before .before .put .ensures) refl
+returns-2 : tie.Need-returns-2
+unfolding recordOver
+returns-2 c =
+    let f = c .before .before .before .before .before .before in
+    let s = f .before .before .before .before in
+    rw (c .before .before .put-entries .ensures, f .put-four .ensures) (sym (long-into _ (s .args .words .now) (omega arith)))
 
 pub record-into-spec : {M : Type 1} → statement M
-record-into-spec =
-    tie.close
-    (tie.spec
-    put-requires
-    put-requires-2
-    put-requires-3
-    put-requires-4
-    put-entries-requires
-    same-length
-    returns)
+record-into-spec = tie.close (tie.spec returns put-four-requires put-entries-requires same-length returns-2)

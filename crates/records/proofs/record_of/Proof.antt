@@ -6,31 +6,43 @@ use mathlib.Core.List.{_++_}
 use Prim.Native.Nat.{_+_, _*_, _-_, _≤_, _<_}
 use native.Mathlib.Omega.{arith}
 use lib.ListN.{length, take, length-set}
-use Rattle.records.specs.Records.{entriesAt, recordOf}
+use borrow.Author.Tests.{lt-ltb, le-ltb}
+use Rattle.paging.specs.Calls.{frameLimit}
+use Rattle.records.specs.Records.{recordLength, entriesFrom, recordIn, recordOf}
 use Rattle.records.proofs.Loops.{read-on, read-all}
 use Rattle.records.proofs.record_of.Statement.{statement}
 use Rattle.records.proofs.record_of.Tie as tie
 
 abbrev Inv-loop : tie.InvT-loop
-Inv-loop words entries₀ i₀ entries i = (i ≤ 256) × (length entries ≡ 256) × (take i entries ++ entriesAt words (4 + 4 * i) (256 - i) ≡ entriesAt words 4 256)
+Inv-loop words entries₀ i₀ entries i =
+    (i ≤ frameLimit) × (length entries ≡ frameLimit) × (take i entries ++ entriesFrom words (4 + 4 * i) (frameLimit - i) ≡ entriesFrom words 4 frameLimit)
 
 abbrev μ-loop : tie.MeasureT-loop
-μ-loop words entries₀ i₀ entries i = 256 - i
+μ-loop words entries₀ i₀ entries i = frameLimit - i
 
-entry-at-requires : tie.Need-entry-at-requires Inv-loop μ-loop
-entry-at-requires c κs = search needs
+blank-requires : tie.Need-blank-requires Inv-loop μ-loop
+blank-requires c κs = search needs
+
+returns : tie.Need-returns Inv-loop μ-loop
+unfolding recordOf
+returns c =
+    let s = c .before .before .before in
+    rw (c .blank .ensures, lt-ltb (length (s .args .words .now)) recordLength (omega arith)) refl
+
+entry-from-requires : tie.Need-entry-from-requires Inv-loop μ-loop
+entry-from-requires c κs = search needs
 
 loop-holds : tie.Need-loop-holds Inv-loop μ-loop
 loop-holds c = (omega arith, refl, refl)
 
-mul-entry-at : tie.Need-mul-entry-at Inv-loop μ-loop
-mul-entry-at c = search needs
+mul-entry-from : tie.Need-mul-entry-from Inv-loop μ-loop
+mul-entry-from c = search needs
 
-add-entry-at : tie.Need-add-entry-at Inv-loop μ-loop
-add-entry-at c = search needs
+add-entry-from : tie.Need-add-entry-from Inv-loop μ-loop
+add-entry-from c = search needs
 
-entry-at-requires-2 : tie.Need-entry-at-requires-2 Inv-loop μ-loop
-entry-at-requires-2 c κs = search needs
+entry-from-requires-2 : tie.Need-entry-from-requires-2 Inv-loop μ-loop
+entry-from-requires-2 c κs = search needs
 
 mul-entries : tie.Need-mul-entries Inv-loop μ-loop
 mul-entries c = search needs
@@ -47,33 +59,33 @@ loop-less c = search needs
 loop-again : tie.Need-loop-again Inv-loop μ-loop
 loop-again c =
     let l = c .before .before in
-    let s = c .before .before .before .before .before in
-    let h : l .loop .i < 256 = omega arith in
+    let s = l .before .before .before .before in
+    let h : l .loop .i < frameLimit = omega arith in
     let k : l .loop .i < length (l .loop .entries) = omega (arith, l .loop .inv .1) in (
       omega arith,
-      length-set (l .loop .entries) (l .loop .i) (c .entry-at2 .result) ∙ l .loop .inv .1,
-      rw (c .entry-at2 .ensures) (read-on (s .args .words .now) (l .loop .entries) 256 (l .loop .i) _ h k (l .loop .inv .2)),
+      length-set (l .loop .entries) (l .loop .i) (c .entry-from2 .result) ∙ l .loop .inv .1,
+      rw (c .entry-from2 .ensures) (read-on (s .args .words .now) (l .loop .entries) frameLimit (l .loop .i) _ h k (l .loop .inv .2)),
     )
 
-word-requires : tie.Need-word-requires Inv-loop μ-loop
-word-requires c κs = search needs
+shared-slice-read-t15 : tie.Need-shared-slice-read-t15 Inv-loop μ-loop
+shared-slice-read-t15 c = search needs
 
-word-requires-2 : tie.Need-word-requires-2 Inv-loop μ-loop
-word-requires-2 c κs = search needs
+shared-slice-read-t17 : tie.Need-shared-slice-read-t17 Inv-loop μ-loop
+shared-slice-read-t17 c = search needs
 
-word-requires-3 : tie.Need-word-requires-3 Inv-loop μ-loop
-word-requires-3 c κs = search needs
+shared-slice-read-t19 : tie.Need-shared-slice-read-t19 Inv-loop μ-loop
+shared-slice-read-t19 c = search needs
 
-word-requires-4 : tie.Need-word-requires-4 Inv-loop μ-loop
-word-requires-4 c κs = search needs
+shared-slice-read-t21 : tie.Need-shared-slice-read-t21 Inv-loop μ-loop
+shared-slice-read-t21 c = search needs
 
-returns : tie.Need-returns Inv-loop μ-loop
-unfolding recordOf
-returns c =
+returns-2 : tie.Need-returns-2 Inv-loop μ-loop
+unfolding recordOf recordIn
+returns-2 c =
     let l = c .before .before .before .before .before in
-    let s = c .before .before .before .before .before .before .before .before in
-    let h : 256 ≤ l .loop .i = omega arith in
-    rw (c .before .before .before .word .ensures, c .before .before .word2 .ensures, c .before .word3 .ensures, c .word4 .ensures, read-all (s .args .words .now) (l .loop .entries) 256 (l .loop .i) _ h (l .loop .inv .0) (l .loop .inv .1) (l .loop .inv .2)) refl
+    let s = l .before .before .before .before in
+    let h : frameLimit ≤ l .loop .i = omega arith in
+    rw (le-ltb (length (s .args .words .now)) recordLength (omega arith), read-all (s .args .words .now) (l .loop .entries) frameLimit (l .loop .i) _ h (l .loop .inv .0) (l .loop .inv .1) (l .loop .inv .2)) refl
 
 pub record-of-spec : {M : Type 1} → statement M
 record-of-spec =
@@ -81,18 +93,20 @@ record-of-spec =
     (tie.spec
     Inv-loop
     μ-loop
-    entry-at-requires
+    blank-requires
+    returns
+    entry-from-requires
     loop-holds
-    mul-entry-at
-    add-entry-at
-    entry-at-requires-2
+    mul-entry-from
+    add-entry-from
+    entry-from-requires-2
     mul-entries
     array-set-from-entries
     add-i
     loop-less
     loop-again
-    word-requires
-    word-requires-2
-    word-requires-3
-    word-requires-4
-    returns)
+    shared-slice-read-t15
+    shared-slice-read-t17
+    shared-slice-read-t19
+    shared-slice-read-t21
+    returns-2)

@@ -1,3 +1,0 @@
--- What the proofs of the exports use.
-mod Words
-mod Laying

@@ -1,0 +1,2 @@
+-- What the proof of the exported words uses.
+mod Words

@@ -1,0 +1,4 @@
+-- What the contracts of the exported services cite.
+pub mod Words
+pub mod Lent
+pub mod Devices

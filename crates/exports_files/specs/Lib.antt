@@ -1,0 +1,2 @@
+-- What the contracts of the exported services cite.
+pub mod Words

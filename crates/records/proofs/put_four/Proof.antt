@@ -1,0 +1,77 @@
+-- `records::put_four` meets its contract: a word put leaves as many words.
+-- Assumes nothing.
+use borrow.Author.Needs.{needs}
+use Prim.Native.Nat.{_+_, _<_}
+use native.Mathlib.Omega.{arith}
+use lib.ListN.{length, set, length-set}
+use Rattle.records.proofs.put_four.Statement.{statement}
+use Rattle.records.proofs.put_four.Tie as tie
+
+mul-words : tie.Need-mul-words
+mul-words c = search needs
+
+slice-write-words : tie.Need-slice-write-words
+slice-write-words c = search needs
+
+add-words : tie.Need-add-words
+add-words c = search needs
+
+mul-words-2 : tie.Need-mul-words-2
+mul-words-2 c = search needs
+
+slice-write-words-2 : tie.Need-slice-write-words-2
+slice-write-words-2 c =
+    let s = c .args in
+    let one = set (s .words .now) (s .at) (s .a) in
+    let h : s .at + 1 < length one = omega (arith, length-set (s .words .now) (s .at) (s .a)) in h
+
+add-words-2 : tie.Need-add-words-2
+add-words-2 c = search needs
+
+mul-words-3 : tie.Need-mul-words-3
+mul-words-3 c = search needs
+
+slice-write-words-3 : tie.Need-slice-write-words-3
+slice-write-words-3 c =
+    let s = c .args in
+    let one = set (s .words .now) (s .at) (s .a) in
+    let two = set one (s .at + 1) (s .b) in
+    let h : s .at + 2 < length two = omega (arith, length-set (s .words .now) (s .at) (s .a), length-set one (s .at + 1) (s .b)) in h
+
+add-words-3 : tie.Need-add-words-3
+add-words-3 c = search needs
+
+mul-words-4 : tie.Need-mul-words-4
+mul-words-4 c = search needs
+
+slice-write-words-4 : tie.Need-slice-write-words-4
+slice-write-words-4 c =
+    let s = c .args in
+    let one = set (s .words .now) (s .at) (s .a) in
+    let two = set one (s .at + 1) (s .b) in
+    let three = set two (s .at + 2) (s .c) in
+    let h : s .at + 3 < length three = omega (arith, length-set (s .words .now) (s .at) (s .a), length-set one (s .at + 1) (s .b), length-set two (s .at + 2) (s .c)) in h
+
+same-length : tie.Need-same-length
+same-length c = search needs
+
+returns : tie.Need-returns
+returns c = search needs
+
+pub put-four-spec : {M : Type 1} → statement M
+put-four-spec =
+    tie.close
+    (tie.spec
+    mul-words
+    slice-write-words
+    add-words
+    mul-words-2
+    slice-write-words-2
+    add-words-2
+    mul-words-3
+    slice-write-words-3
+    add-words-3
+    mul-words-4
+    slice-write-words-4
+    same-length
+    returns)
