@@ -1,0 +1,153 @@
+// Reads a line byte by byte. After the colon the first letter says what is asked. Numbers go one behind the other into words, - is the mark, 7*9 nine sevens, @9 leaves the next number's place at 9, ; cuts the list, and ? cuts it before the words behind a record.
+use paging::MARK;
+
+// What has been read of a line: its stage, the letter, the number being read and the one that is to be repeated, the next number's place, and the first three cuts.
+pub struct Line {
+    pub stage: u8,
+    pub verb: u8,
+    pub number: u64,
+    pub value: u32,
+    pub place: usize,
+    pub first: usize,
+    pub second: usize,
+    pub third: usize,
+}
+
+const NAME: u8 = 0;
+
+const BETWEEN: u8 = 1;
+
+const NUMBER: u8 = 2;
+
+const PLACE: u8 = 3;
+
+const TIMES: u8 = 4;
+
+pub fn begun() -> Line {
+    Line {
+        stage: NAME,
+        verb: 0,
+        number: 0,
+        value: 0,
+        place: 0,
+        first: 0,
+        second: 0,
+        third: 0,
+    }
+}
+
+// A name's byte is printed; the colon ends the name.
+fn named(line: Line, byte: u8) -> Line {
+    let mut next = line;
+    if byte == 58 {
+        next.stage = BETWEEN;
+        return next;
+    }
+    let one = [byte];
+    io::write_all(1, &one);
+    next
+}
+
+fn word(number: u64) -> u32 {
+    if number <= 4294967295 {
+        return number as u32;
+    }
+    MARK
+}
+
+fn digit(line: Line, byte: u8) -> Line {
+    let mut next = line;
+    let number = line.number;
+    if number < 1000000000 {
+        if 48 <= byte {
+            next.number = number * 10 + (byte - 48) as u64;
+        }
+    }
+    if line.stage == BETWEEN {
+        next.stage = NUMBER;
+    }
+    next
+}
+
+// Puts a word so many times.
+fn fill(words: &mut [u32; 16500], from: usize, word: u32, times: u32) -> usize {
+    let mut at = from;
+    for _ in 0..times {
+        if at < 16500 {
+            words[at] = word;
+            at += 1;
+        }
+    }
+    at
+}
+
+// What follows a number ends it.
+fn ended(line: Line, words: &mut [u32; 16500]) -> Line {
+    let mut next = line;
+    let number = word(line.number);
+    if line.stage == NUMBER {
+        next.place = fill(words, line.place, number, 1);
+    }
+    if line.stage == TIMES {
+        next.place = fill(words, line.place, line.value, number);
+    }
+    if line.stage == PLACE {
+        next.place = number as usize;
+    }
+    next.number = 0;
+    next.stage = BETWEEN;
+    next
+}
+
+fn cut(line: Line) -> Line {
+    let mut next = line;
+    if line.first == 0 {
+        next.first = line.place;
+    } else if line.second == 0 {
+        next.second = line.place;
+    } else {
+        next.third = line.place;
+    }
+    next
+}
+
+// A byte that is no digit.
+fn sign(line: Line, byte: u8) -> Line {
+    let mut next = line;
+    if byte == 45 {
+        next.number = 4294967295;
+        next.stage = NUMBER;
+    }
+    if byte == 63 {
+        next.first = line.place;
+        next.place = 1028;
+    }
+    if byte == 64 {
+        next.stage = PLACE;
+    }
+    if byte == 42 {
+        next.value = word(line.number);
+        next.number = 0;
+        next.stage = TIMES;
+    }
+    if 97 <= byte && line.verb == 0 {
+        next.verb = byte;
+    }
+    next
+}
+
+pub fn step(line: Line, byte: u8, words: &mut [u32; 16500]) -> Line {
+    if line.stage == NAME {
+        return named(line, byte);
+    }
+    if 48 <= byte && byte <= 57 {
+        return digit(line, byte);
+    }
+    if byte == 59 {
+        return cut(ended(line, words));
+    }
+    if byte == 10 || byte == 32 || byte == 44 {
+        return ended(line, words);
+    }
+    sign(line, byte)
+}

@@ -1,0 +1,21 @@
+// What lines print: numbers and words.
+use paging::MARK;
+
+pub fn number(number: u32) {
+    io::write_all(1, b" ");
+    io::print_decimal(1, number as u64);
+}
+
+pub fn word(word: u32) {
+    if word == MARK {
+        io::write_all(1, b" -");
+        return;
+    }
+    number(word);
+}
+
+pub fn words(words: &[u32]) {
+    for i in 0..words.len() {
+        word(words[i]);
+    }
+}
