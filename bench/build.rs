@@ -9,6 +9,9 @@ fn main() {
     if env::var_os("CARGO_FEATURE_BASELINE_ONLY").is_some() {
         return;
     }
+    if env::var("CARGO_CFG_TARGET_ARCH").unwrap() != "x86_64" {
+        panic!("the proved program's archive is for x86-64; use --features baseline-only here");
+    }
     let archive = archive();
     println!("cargo:rerun-if-changed={}", archive.display());
     if !archive.is_file() {

@@ -1,19 +1,18 @@
 // The proved program for x86-64 behind two pipes, for a comparison that runs on another machine.
-// A call comes as words: its bytes in all, the function, how many numbers, how many lists; then the numbers; then for
-// each list its bytes, the bytes of one element, and whether it is lent to be written. What the lists hold comes behind.
-// An answer is two words: its bytes in all, and 0 or else which list, from 1, was touched where it may not be. Behind
-// them comes what the lists hold that were lent to be written.
+// A call is a head, then its numbers, then for each list its bytes, the bytes of one element and whether it is lent to
+// be written, all as words; behind them comes what the lists hold. An answer is a head and what the written lists hold.
 
 typedef unsigned char u8;
 typedef unsigned int u32;
 typedef __SIZE_TYPE__ size;
 
-// There are no headers beside the kit's compiler.
+// The kit's compiler comes without headers.
 long read(int file, void *to, size bytes);
 long write(int file, const void *from, size bytes);
 void *memcpy(void *to, const void *from, size bytes);
 void *memset(void *to, int value, size bytes);
 int memcmp(const void *one, const void *other, size bytes);
+int strcmp(const char *one, const char *other);
 
 void hedravos_count(u32, u32, const u32 *, size, u32 *, size);
 void hedravos_plan(u32, u32, const u32 *, size, u32 *, size, u32 *, size);
@@ -28,68 +27,82 @@ void hedravos_read(const u8 *, size, u32 *, size, u32 *, size, u32 *, size);
 void hedravos_write(u32, u32, const u32 *, size, const u32 *, size, u8 *, size, u32 *, size);
 void hedravos_report(const u8 *, size, u8 *, size, u32 *, size);
 
-enum { ROOM = 1 << 22, GUARD = 64, NUMBERS = 2, LISTS = 5, HEAD = 16 };
+enum { ROOM = 1 << 22, GUARD = 64, LISTS = 5 };
 
-struct list {
+// The bytes in all come first, and a function's name ends in zeros.
+static struct {
+    u32 bytes;
+    char function[16];
+    u32 numbers;
+    u32 lists;
+    u32 rest[ROOM / 4];
+} call;
+
+// Touched is 0, or which list, counted from 1, was changed where it may not be.
+static struct {
+    u32 bytes;
+    u32 touched;
+    u8 rest[ROOM];
+} answer;
+
+static struct list {
     void *start;
     size length;
     u32 bytes;
     u32 written;
     const u8 *sent;
-};
+} lists[LISTS];
 
-static u32 call[ROOM / 4], answer[ROOM / 4];
-// What a call has, with the guards and up to three bytes for each list that begins the next at a whole word.
+// Room for the lists of any call, each with its guards and begun at a whole word.
 static u32 lent[(ROOM + LISTS * (2 * GUARD + 4)) / 4];
 static u8 guard[GUARD];
-static u32 numbers[NUMBERS];
-static struct list lists[LISTS];
 
 // Reads a whole call; 0 where there is none, or none that fits.
 static int take_call(void) {
     size have = 0;
     do {
-        long more = read(0, (u8 *)call + have, ROOM - have);
+        long more = read(0, (u8 *)&call + have, sizeof call - have);
         if (more <= 0) return 0;
         have += more;
-    } while (have < HEAD || have < call[0]);
-    return have == call[0] && call[2] <= NUMBERS && call[3] <= LISTS;
+    } while (have < 4 || have < call.bytes);
+    return have == call.bytes && call.lists <= LISTS;
 }
 
-// Copies each list into a place of its own, with guards on both sides.
+// Copies each list to a place of its own, with guards on both sides.
 static void lend(void) {
-    const u32 *head = call + 4 + call[2];
-    const u8 *sent = (const u8 *)(head + 3 * call[3]);
+    const u32 *about = call.rest + call.numbers;
+    const u8 *sent = (const u8 *)(about + 3 * call.lists);
     u8 *place = (u8 *)lent;
-    memcpy(numbers, call + 4, 4 * call[2]);
-    for (u32 i = 0; i < call[3]; i++, head += 3) {
-        lists[i] = (struct list){place + GUARD, head[0] / head[1], head[0], head[2], sent};
+    for (u32 i = 0; i < call.lists; i++, about += 3) {
+        u32 bytes = about[0];
+        lists[i] = (struct list){place + GUARD, bytes / about[1], bytes, about[2], sent};
         memcpy(place, guard, GUARD);
-        memcpy(place + GUARD, sent, head[0]);
-        memcpy(place + GUARD + head[0], guard, GUARD);
-        sent += head[0];
-        place += 2 * GUARD + (head[0] + 3) / 4 * 4;
+        memcpy(place + GUARD, sent, bytes);
+        memcpy(place + GUARD + bytes, guard, GUARD);
+        sent += bytes;
+        place += 2 * GUARD + (bytes + 3) / 4 * 4;
     }
 }
 
-// The functions have the numbers of their order in judge.rs.
-static int called(void) {
-#define NUMBER(i) numbers[i]
+static int is(const char *function) { return strcmp(call.function, function) == 0; }
+
+#define NUMBER(i) call.rest[i]
 #define LIST(i) lists[i].start, lists[i].length
-    switch (call[1]) {
-    case 0: hedravos_count(NUMBER(0), NUMBER(1), LIST(0), LIST(1)); return 1;
-    case 1: hedravos_plan(NUMBER(0), NUMBER(1), LIST(0), LIST(1), LIST(2)); return 1;
-    case 2: hedravos_check(NUMBER(0), LIST(0), LIST(1), LIST(2)); return 1;
-    case 3: hedravos_better(NUMBER(0), LIST(0), LIST(1), LIST(2), LIST(3)); return 1;
-    case 4: hedravos_better_words(NUMBER(0), LIST(0), LIST(1), LIST(2), LIST(3), LIST(4)); return 1;
-    case 5: hedravos_fresh(NUMBER(0), NUMBER(1), LIST(0), LIST(1)); return 1;
-    case 6: hedravos_sound(LIST(0), LIST(1)); return 1;
-    case 7: hedravos_feed(LIST(0), NUMBER(0), LIST(1), LIST(2)); return 1;
-    case 8: hedravos_feed_own(LIST(0), NUMBER(0), LIST(1)); return 1;
-    case 9: hedravos_read(LIST(0), LIST(1), LIST(2), LIST(3)); return 1;
-    case 10: hedravos_write(NUMBER(0), NUMBER(1), LIST(0), LIST(1), LIST(2), LIST(3)); return 1;
-    case 11: hedravos_report(LIST(0), LIST(1), LIST(2)); return 1;
-    }
+
+// Whether there is such a function.
+static int called(void) {
+    if (is("count")) return hedravos_count(NUMBER(0), NUMBER(1), LIST(0), LIST(1)), 1;
+    if (is("plan")) return hedravos_plan(NUMBER(0), NUMBER(1), LIST(0), LIST(1), LIST(2)), 1;
+    if (is("check")) return hedravos_check(NUMBER(0), LIST(0), LIST(1), LIST(2)), 1;
+    if (is("better")) return hedravos_better(NUMBER(0), LIST(0), LIST(1), LIST(2), LIST(3)), 1;
+    if (is("better_words")) return hedravos_better_words(NUMBER(0), LIST(0), LIST(1), LIST(2), LIST(3), LIST(4)), 1;
+    if (is("fresh")) return hedravos_fresh(NUMBER(0), NUMBER(1), LIST(0), LIST(1)), 1;
+    if (is("sound")) return hedravos_sound(LIST(0), LIST(1)), 1;
+    if (is("feed")) return hedravos_feed(LIST(0), NUMBER(0), LIST(1), LIST(2)), 1;
+    if (is("feed_own")) return hedravos_feed_own(LIST(0), NUMBER(0), LIST(1)), 1;
+    if (is("read")) return hedravos_read(LIST(0), LIST(1), LIST(2), LIST(3)), 1;
+    if (is("write")) return hedravos_write(NUMBER(0), NUMBER(1), LIST(0), LIST(1), LIST(2), LIST(3)), 1;
+    if (is("report")) return hedravos_report(LIST(0), LIST(1), LIST(2)), 1;
     return 0;
 }
 
@@ -100,18 +113,21 @@ static int touched(const struct list *list) {
     return !list->written && memcmp(start, list->sent, list->bytes) != 0;
 }
 
-static int give_answer(void) {
-    u8 *place = (u8 *)answer + 8;
-    answer[1] = 0;
-    for (u32 i = 0; i < call[3]; i++) {
-        if (answer[1] == 0 && touched(&lists[i])) answer[1] = i + 1;
+static void fill_answer(void) {
+    u8 *place = answer.rest;
+    answer.touched = 0;
+    for (u32 i = 0; i < call.lists; i++) {
+        if (answer.touched == 0 && touched(&lists[i])) answer.touched = i + 1;
         if (!lists[i].written) continue;
         memcpy(place, lists[i].start, lists[i].bytes);
         place += lists[i].bytes;
     }
-    answer[0] = place - (u8 *)answer;
-    for (size gone = 0; gone < answer[0];) {
-        long more = write(1, (u8 *)answer + gone, answer[0] - gone);
+    answer.bytes = place - (u8 *)&answer;
+}
+
+static int give_answer(void) {
+    for (size gone = 0; gone < answer.bytes;) {
+        long more = write(1, (u8 *)&answer + gone, answer.bytes - gone);
         if (more <= 0) return 0;
         gone += more;
     }
@@ -122,7 +138,9 @@ int main(void) {
     memset(guard, 0xBD, GUARD);
     while (take_call()) {
         lend();
-        if (!called() || !give_answer()) return 1;
+        if (!called()) return 1;
+        fill_answer();
+        if (!give_answer()) return 1;
     }
     return 0;
 }

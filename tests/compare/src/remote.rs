@@ -1,14 +1,46 @@
 //! The proved program on a machine that isn't x86-64: a server for x86-64, linked with the archive and run
-//! under the kit's emulator, is asked over pipes. What is sent and answered is told in server/server.c.
+//! under the kit's emulator, is asked over pipes. What a call and an answer look like is told in server/server.c.
 
-use std::io::{self, Read, Write};
-use std::process::{exit, Child, Command, Stdio};
+use std::io::{self, BufReader, Read, Write};
+use std::process::{exit, ChildStdin, ChildStdout, Command, Stdio};
 use std::slice::{from_raw_parts, from_raw_parts_mut};
-use std::sync::{Mutex, OnceLock};
+use std::sync::{LazyLock, Mutex};
 
 // Lists go over as they lie in memory, and on x86-64 a word's lowest byte comes first.
 #[cfg(not(target_endian = "little"))]
 compile_error!("the lowest byte of a word must come first");
+
+struct Server {
+    calls: ChildStdin,
+    answers: BufReader<ChildStdout>,
+}
+
+static SERVER: LazyLock<Mutex<Server>> = LazyLock::new(|| Mutex::new(start_server()));
+
+fn start_server() -> Server {
+    let tools = env!("HEDRAVOS_TOOLCHAIN");
+    // On a newer processor than the plain one the C library copies by an instruction that is slow to emulate.
+    let server = Command::new(format!("{tools}/bin/qemu-x86_64"))
+        .args(["-cpu", "qemu64"])
+        .arg(format!("{tools}/lib/ld-linux-x86-64.so.2"))
+        .args(["--library-path", &format!("{tools}/lib")])
+        .arg(env!("HEDRAVOS_SERVER"))
+        .stdin(Stdio::piped())
+        .stdout(Stdio::piped())
+        .spawn();
+    let mut server = server.unwrap_or_else(|error| stop(&format!("can't be started: {error}")));
+    Server {
+        calls: server.stdin.take().unwrap(),
+        answers: BufReader::new(server.stdout.take().unwrap()),
+    }
+}
+
+/// Where the server can't be relied on, nothing may pass.
+fn stop(what: &str) -> ! {
+    println!("stopped");
+    eprintln!("the server of the proved program {what}");
+    exit(1)
+}
 
 /// A list as it lies in memory.
 struct List {
@@ -34,68 +66,53 @@ fn written<T>(start: *mut T, length: usize) -> List {
     }
 }
 
-fn start_server() -> Mutex<Child> {
-    let tools = env!("HEDRAVOS_TOOLCHAIN");
-    let server = Command::new(format!("{tools}/bin/qemu-x86_64"))
-        .arg(format!("{tools}/lib/ld-linux-x86-64.so.2"))
-        .args(["--library-path", &format!("{tools}/lib")])
-        .arg(env!("HEDRAVOS_SERVER"))
-        .stdin(Stdio::piped())
-        .stdout(Stdio::piped())
-        .spawn();
-    Mutex::new(server.unwrap_or_else(|error| stop(&format!("can't be started: {error}"))))
-}
-
-/// Without the server nothing is compared, so nothing may pass.
-fn stop(what: &str) -> ! {
-    println!("stopped");
-    eprintln!("the server of the proved program {what}");
-    exit(1)
-}
-
-fn message(function: u32, numbers: &[u32], lists: &[List]) -> Vec<u8> {
-    let mut words = vec![0, function, numbers.len() as u32, lists.len() as u32];
+unsafe fn message(function: &str, numbers: &[u32], lists: &[List]) -> Vec<u8> {
+    let mut words = vec![numbers.len() as u32, lists.len() as u32];
     words.extend_from_slice(numbers);
     for list in lists {
         words.extend([list.bytes as u32, list.element as u32, list.written.into()]);
     }
-    words[0] = (4 * words.len() + lists.iter().map(|list| list.bytes).sum::<usize>()) as u32;
-    let mut bytes: Vec<u8> = words.iter().flat_map(|word| word.to_le_bytes()).collect();
+    let mut message = vec![0; 4];
+    message.extend_from_slice(function.as_bytes());
+    message.resize(20, 0);
+    message.extend(words.iter().flat_map(|word| word.to_le_bytes()));
     for list in lists {
-        bytes.extend_from_slice(unsafe { from_raw_parts(list.start, list.bytes) });
+        message.extend_from_slice(from_raw_parts(list.start, list.bytes));
     }
-    bytes
+    let length = message.len() as u32;
+    message[..4].copy_from_slice(&length.to_le_bytes());
+    message
 }
 
-/// Sends these bytes and answers as many as are awaited.
-fn ask(sent: &[u8], awaited: usize) -> io::Result<Vec<u8>> {
-    static SERVER: OnceLock<Mutex<Child>> = OnceLock::new();
-    let mut server = SERVER.get_or_init(start_server).lock().unwrap();
-    server.stdin.as_mut().unwrap().write_all(sent)?;
-    let mut answer = vec![0; awaited];
-    server.stdout.as_mut().unwrap().read_exact(&mut answer)?;
-    Ok(answer)
+/// Sends a call and answers what comes back behind the head, which is so many bytes.
+fn ask(function: &str, sent: &[u8], awaited: usize) -> io::Result<Vec<u8>> {
+    let mut server = SERVER.lock().unwrap();
+    server.calls.write_all(sent)?;
+    let mut head = [0; 8];
+    server.answers.read_exact(&mut head)?;
+    let (length, touched) = head.split_at(4);
+    if length != (8 + awaited as u32).to_le_bytes() {
+        stop(&format!("answers {function} by too few or too many bytes"));
+    }
+    if touched != [0; 4] {
+        let list = touched[0];
+        stop(&format!(
+            "sees {function} write where it may not, in or around list {list}"
+        ));
+    }
+    let mut lists = vec![0; awaited];
+    server.answers.read_exact(&mut lists)?;
+    Ok(lists)
 }
 
-/// Calls a function by its number, and copies back what it wrote.
-unsafe fn call(function: u32, numbers: &[u32], lists: &[List]) {
+/// Calls a function, and copies back what it wrote.
+unsafe fn call(function: &str, numbers: &[u32], lists: &[List]) {
     let back = || lists.iter().filter(|list| list.written);
-    let awaited = 8 + back().map(|list| list.bytes).sum::<usize>();
+    let awaited = back().map(|list| list.bytes).sum();
     let sent = message(function, numbers, lists);
-    let answer = ask(&sent, awaited)
-        .unwrap_or_else(|error| stop(&format!("gave no answer to function {function}: {error}")));
-    let (head, mut rest) = answer.split_at(8);
-    if head[..4] != (awaited as u32).to_le_bytes() {
-        stop(&format!(
-            "gave no answer of {awaited} bytes to function {function}"
-        ));
-    }
-    if head[4..] != [0; 4] {
-        let list = head[4];
-        stop(&format!(
-            "saw function {function} touch what it may not, in or around list {list}"
-        ));
-    }
+    let answer = ask(function, &sent, awaited)
+        .unwrap_or_else(|error| stop(&format!("gives no answer to {function}: {error}")));
+    let mut rest = &answer[..];
     for list in back() {
         let (part, more) = rest.split_at(list.bytes);
         from_raw_parts_mut(list.start, list.bytes).copy_from_slice(part);
@@ -113,7 +130,7 @@ unsafe extern "C" fn hedravos_count(
     answer_len: usize,
 ) {
     call(
-        0,
+        "count",
         &[rule, n],
         &[kept(trace, trace_len), written(answer, answer_len)],
     );
@@ -131,7 +148,7 @@ unsafe extern "C" fn hedravos_plan(
     answer_len: usize,
 ) {
     call(
-        1,
+        "plan",
         &[rule, n],
         &[
             kept(trace, trace_len),
@@ -152,7 +169,7 @@ unsafe extern "C" fn hedravos_check(
     answer_len: usize,
 ) {
     call(
-        2,
+        "check",
         &[m],
         &[
             kept(trace, trace_len),
@@ -175,7 +192,7 @@ unsafe extern "C" fn hedravos_better(
     answer_len: usize,
 ) {
     call(
-        3,
+        "better",
         &[m],
         &[
             kept(trace, trace_len),
@@ -201,7 +218,7 @@ unsafe extern "C" fn hedravos_better_words(
     answer_len: usize,
 ) {
     call(
-        4,
+        "better_words",
         &[m],
         &[
             kept(trace, trace_len),
@@ -223,7 +240,7 @@ unsafe extern "C" fn hedravos_fresh(
     answer_len: usize,
 ) {
     call(
-        5,
+        "fresh",
         &[rule, n],
         &[written(record, record_len), written(answer, answer_len)],
     );
@@ -237,7 +254,7 @@ unsafe extern "C" fn hedravos_sound(
     answer_len: usize,
 ) {
     call(
-        6,
+        "sound",
         &[],
         &[kept(record, record_len), written(answer, answer_len)],
     );
@@ -254,7 +271,7 @@ unsafe extern "C" fn hedravos_feed(
     answer_len: usize,
 ) {
     call(
-        7,
+        "feed",
         &[page],
         &[
             kept(record, record_len),
@@ -273,7 +290,7 @@ unsafe extern "C" fn hedravos_feed_own(
     answer_len: usize,
 ) {
     call(
-        8,
+        "feed_own",
         &[page],
         &[written(record, record_len), written(answer, answer_len)],
     );
@@ -291,7 +308,7 @@ unsafe extern "C" fn hedravos_read(
     answer_len: usize,
 ) {
     call(
-        9,
+        "read",
         &[],
         &[
             kept(bytes, bytes_len),
@@ -316,7 +333,7 @@ unsafe extern "C" fn hedravos_write(
     answer_len: usize,
 ) {
     call(
-        10,
+        "write",
         &[n, m],
         &[
             kept(trace, trace_len),
@@ -337,7 +354,7 @@ unsafe extern "C" fn hedravos_report(
     answer_len: usize,
 ) {
     call(
-        11,
+        "report",
         &[],
         &[
             kept(bytes, bytes_len),
