@@ -2,7 +2,7 @@
 --
 -- In order: Feed where nothing is refused; soundness; the page dropped; feeding a trace.
 -- Assumes nothing.
-use mathlib.Core.Path.{_≡_, refl, sym, ap, ap₂, _∙_}
+use mathlib.Core.Path.{_≡_, refl, sym, ap, ap₂, _∙_, subst}
 use mathlib.Core.Bool.{Bool, true, false}
 use mathlib.Core.List.{List, [], _∷_, map}
 use Prim.Native.Nat.{ℕ, suc, _+_, _-_, _≤_, _<_}
@@ -15,7 +15,7 @@ use borrow.Author.Tests.{ne-eqb, eqb-false}
 use Rattle.paging.specs.Lists.{pick, any}
 use Rattle.paging.specs.Rules.{mark, between, noRequests, ruleNumbered, named, drops}
 use Rattle.paging.specs.Walk.{entryAt, next, outcomes, faultsIn, planIn, faults, plan}
-use Rattle.paging.specs.Calls.{frameLimit, marked}
+use Rattle.paging.specs.Calls.{frameLimit, requestLimit, marked}
 use Rattle.paging.specs.declared.Entry.{Entry}
 use Rattle.paging.specs.declared.Gate.the-variants.{Open}
 use Rattle.paging.specs.declared.Rule.the-variants.{Min}
@@ -24,30 +24,34 @@ use Rattle.paging.specs.declared.Outcome.the-variants as O
 use Rattle.paging.proofs.Lists.{false≢true}
 use Rattle.paging.proofs.Frames.{next-size}
 use Rattle.paging.proofs.Sight.{outcomes-past, outcome-blind, next-blind}
+use Rattle.entries.specs.Blank.{blankEntry}
+use Rattle.soundness.specs.Sound.{feedable}
+use Rattle.soundness.proofs.Orderly.{drops-one}
 use Rattle.cache.specs.declared.Cache.{Cache}
+use Rattle.cache.specs.declared.Served.{Served}
 use Rattle.cache.specs.declared.Reply.{Reply}
 use Rattle.cache.specs.declared.Fed.{Fed}
-use Rattle.cache.specs.Record.{blankEntry, emptyCache, heldOf, heldEntries, ruleOf, feedable, freshOf}
-use Rattle.cache.specs.Sound.{sound}
+use Rattle.cache.specs.Record.{emptyCache, heldOf, heldEntries, ruleOf, freshOf}
+use Rattle.cache.specs.Sound.{sound, Sound}
 use Rattle.cache.specs.Feed.{served, replyOf, fed, feeding, fedPlan, fedFaults}
-use Rattle.cache.specs.Step.{outcomesFrom}
-use Rattle.cache.proofs.Orderly.{drops-one}
-use Rattle.cache.proofs.Soundness.{Sound, sound-is, is-sound, held-length, empty-sound, fresh-in-order, fresh-empty}
-use Rattle.cache.proofs.Step.{not-min, served-sound}
+use Rattle.cache.specs.Devices.Step.{stepOn, onward, outcomesFrom}
+use Rattle.cache.proofs.Soundness.{sound-is, is-sound, held-length, empty-sound, fresh-in-order, fresh-empty}
+use Rattle.cache.proofs.Least.{not-min}
+use Rattle.cache.proofs.Step.{served-steps, served-sound}
 
 -- ---- where nothing is refused
 
-pub fed-open : (c : Cache) (p : ℕ) → sound c ≡ true → (p ≡ mark → ⊥) → (c .clock ≡ 8000 → ⊥)
+pub fed-open : (c : Cache) (p : ℕ) → sound c ≡ true → (p ≡ mark → ⊥) → (c .clock ≡ requestLimit → ⊥)
     → _≡_ {A = Fed} (fed c p) (record { outcome = replyOf (served c p .outcome); next = served c p .next })
 unfolding fed
-fed-open c p s page clock = rw (s, ne-eqb p mark page, ne-eqb (c .clock) 8000 clock)
+fed-open c p s page clock = rw (s, ne-eqb p mark page, ne-eqb (c .clock) requestLimit clock)
 
 -- the entries in use after a request are those of the walk
 pub served-held : (c : Cache) (p : ℕ) → heldEntries (served c p .next) ≡ next (ruleOf c) (c .frames) (c .clock) p noRequests (heldEntries c)
 unfolding served
 served-held c p = take-append-seam (next (ruleOf c) (c .frames) (c .clock) p noRequests (heldEntries c)) _
 
-pub served-size : (c : Cache) (p : ℕ) → length (c .entries) ≡ 256 → Sound c → length (served c p .next .entries) ≡ 256
+pub served-size : (c : Cache) (p : ℕ) → length (c .entries) ≡ frameLimit → Sound c → length (served c p .next .entries) ≡ frameLimit
 unfolding served
 served-size c p size s =
     let es : List Entry = next (ruleOf c) (c .frames) (c .clock) p noRequests (heldEntries c) in
@@ -56,28 +60,28 @@ served-size c p size s =
 
 -- ---- FEED KEEPS A RECORD SOUND
 
-pub fed-sound : (c : Cache) (p : ℕ) → length (c .entries) ≡ 256 → sound c ≡ true → sound (fed c p .next) ≡ true
+pub fed-sound : (c : Cache) (p : ℕ) → length (c .entries) ≡ frameLimit → sound c ≡ true → sound (fed c p .next) ≡ true
 unfolding fed
-fed-sound c p size s = go (eqb p mark) (eqb (c .clock) 8000) refl refl
+fed-sound c p size s = go (eqb p mark) (eqb (c .clock) requestLimit) refl refl
   where
-    go : (a b : Bool) → eqb p mark ≡ a → eqb (c .clock) 8000 ≡ b → sound (fed c p .next) ≡ true
+    go : (a b : Bool) → eqb p mark ≡ a → eqb (c .clock) requestLimit ≡ b → sound (fed c p .next) ≡ true
     go true b q r = rw (s, q) s
     go false true q r = rw (s, q, r) s
     go false false q r =
         let k : Sound c = sound-is c s in
         rw (s, q, r) (is-sound _ (served-sound c p size k (below (c .clock) (k .clock-most) (eqb-false _ _ r)) (eqb-false _ _ q)))
       where
-        below : (t : ℕ) → t ≤ 8000 → (t ≡ 8000 → ⊥) → t < 8000
+        below : (t : ℕ) → t ≤ requestLimit → (t ≡ requestLimit → ⊥) → t < requestLimit
         below t h e = omega arith
 
 -- ---- THE PAGE DROPPED IS UNIQUE, on a sound record: only one entry fits the rule's description
 
-pub dropped-one : (c : Cache) → length (c .entries) ≡ 256 → sound c ≡ true → (i j : ℕ) → i < heldOf c → j < heldOf c
+pub dropped-one : (c : Cache) → length (c .entries) ≡ frameLimit → sound c ≡ true → (i j : ℕ) → i < heldOf c → j < heldOf c
     → drops (ruleOf c) noRequests (heldEntries c) (entryAt (heldEntries c) i) ≡ true
     → drops (ruleOf c) noRequests (heldEntries c) (entryAt (heldEntries c) j) ≡ true → i ≡ j
 dropped-one c size s i j h k =
     let w : Sound c = sound-is c s in
-    drops-one (c .clock) (heldEntries c) (w .orderly) (ruleOf c) noRequests (not-min c size w) i j
+    drops-one (c .clock) (heldEntries c) (w .orderly) (ruleOf c) noRequests (not-min (c .rule) (w .feeds)) i j
     (omega (arith, held-length c size w)) (omega (arith, held-length c size w))
 
 -- ---- FEEDING A TRACE
@@ -91,7 +95,7 @@ unmarked-cons p ps = go (eqb p mark) refl
     go false q m = (eqb-false _ _ q, m)
 
 -- one request, then the rest
-pub outcomes-step : (c : Cache) (p : ℕ) (ps : List ℕ) → (ruleOf c ≡ Min → ⊥) → outcomesFrom c (p ∷ ps) ≡ served c p .outcome ∷ outcomesFrom (served c p .next) ps
+outcomes-step : (c : Cache) (p : ℕ) (ps : List ℕ) → (ruleOf c ≡ Min → ⊥) → outcomesFrom c (p ∷ ps) ≡ served c p .outcome ∷ outcomesFrom (served c p .next) ps
 unfolding served outcomes
 outcomes-step c p ps fed =
     let es : List Entry = heldEntries c in
@@ -103,14 +107,14 @@ outcomes-step c p ps fed =
 -- a record that can be fed these requests without a refusal
 pub record Fits (c : Cache) (ps : List ℕ) : Type 0 where
   pub sound-now : Sound c
-  pub long-now : length (c .entries) ≡ 256
-  pub time-left : c .clock + length ps ≤ 8000
+  pub long-now : length (c .entries) ≡ frameLimit
+  pub time-left : c .clock + length ps ≤ requestLimit
   pub no-mark : marked ps ≡ false
 
-pub fits-first : (c : Cache) (ps : List ℕ) → length (c .entries) ≡ 256 → (sound c ≡ true) → (c .clock + length ps ≤ 8000) → (marked ps ≡ false) → Fits c ps
+pub fits-first : (c : Cache) (ps : List ℕ) → length (c .entries) ≡ frameLimit → (sound c ≡ true) → (c .clock + length ps ≤ requestLimit) → (marked ps ≡ false) → Fits c ps
 fits-first c ps l s h m = record { sound-now = sound-is c s; long-now = l; time-left = h; no-mark = m }
 
-pub fits-next : (c : Cache) (p : ℕ) (ps : List ℕ) → Fits c (p ∷ ps) → (p ≡ mark → ⊥) × Fits (served c p .next) ps
+fits-next : (c : Cache) (p : ℕ) (ps : List ℕ) → Fits c (p ∷ ps) → (p ≡ mark → ⊥) × Fits (served c p .next) ps
 fits-next c p ps f =
     let (page, rest) = unmarked-cons p ps (f .no-mark) in (
       page,
@@ -122,8 +126,19 @@ fits-next c p ps f =
       },
     )
   where
-    later : (c : Cache) (p : ℕ) (ps : List ℕ) → c .clock + length (p ∷ ps) ≤ 8000 → served c p .next .clock + length ps ≤ 8000
+    later : (c : Cache) (p : ℕ) (ps : List ℕ) → c .clock + length (p ∷ ps) ≤ requestLimit → served c p .next .clock + length ps ≤ requestLimit
     later c p ps h = unfold served in omega arith
+
+-- the same over the record's parts, for a loop that carries them
+module _ (c : Cache) (p : ℕ) (ps : List ℕ) (f : Fits c (p ∷ ps)) where
+  pub fits-on : Fits (onward c (stepOn c p)) ps
+  fits-on =
+      subst (λ (d : Cache). Fits d ps) (sym (ap (λ (a : Served). a .next) (served-steps c (f .long-now) (f .sound-now) p))) (fits-next c p ps f .1)
+
+  pub outcomes-on : outcomesFrom c (p ∷ ps) ≡ stepOn c p .outcome ∷ outcomesFrom (onward c (stepOn c p)) ps
+  outcomes-on =
+      outcomes-step c p ps (not-min (c .rule) (f .sound-now .feeds))
+      ∙ sym (ap (λ (a : Served). a .outcome ∷ outcomesFrom (a .next) ps) (served-steps c (f .long-now) (f .sound-now) p))
 
 -- the replies are the outcomes of the walk from its entries
 pub feeding-walks : (ps : List ℕ) (c : Cache) → Fits c ps → feeding c ps ≡ map replyOf (outcomesFrom c ps)
@@ -131,9 +146,9 @@ unfolding feeding outcomes
 feeding-walks [] c f = refl
 feeding-walks (p ∷ ps) c f =
     let (page, g) = fits-next c p ps f in
-    let full : c .clock ≡ 8000 → ⊥ = λ x. omega (arith, f .time-left) in
+    let full : c .clock ≡ requestLimit → ⊥ = λ x. omega (arith, f .time-left) in
     rw (fed-open c p (is-sound c (f .sound-now)) page full) (ap (λ (rs : List Reply). replyOf (served c p .outcome) ∷ rs) (feeding-walks ps (served c p .next) g))
-    ∙ ap (map replyOf) (sym (outcomes-step c p ps (not-min c (f .long-now) (f .sound-now))))
+    ∙ ap (map replyOf) (sym (outcomes-step c p ps (not-min (c .rule) (f .sound-now .feeds))))
 
 plan-of-replies : (os : List Outcome) → fedPlan (map replyOf os) ≡ planIn os
 unfolding fedPlan planIn
@@ -150,7 +165,7 @@ faults-of-replies (O.Loaded ∷ os) = ap (λ (k : ℕ). 1 + k) (faults-of-replie
 faults-of-replies (O.Dropped p ∷ os) = ap (λ (k : ℕ). 1 + k) (faults-of-replies os)
 
 -- rule 1, 2 or 4 by its number, 1 to 256 frames, up to 8,000 requests without the mark
-module _ (rule n : ℕ) (trace : List ℕ) (feeds : feedable rule ≡ true) (some : 1 ≤ n) (most : n ≤ 256) (short : length trace ≤ 8000) (clean : marked trace ≡ false) where
+module _ (rule n : ℕ) (trace : List ℕ) (feeds : feedable rule ≡ true) (some : 1 ≤ n) (most : n ≤ frameLimit) (short : length trace ≤ requestLimit) (clean : marked trace ≡ false) where
   -- the replies are the walk's outcomes
   pub feeding-gives-the-walk : feeding (emptyCache rule n) trace ≡ map replyOf (outcomes (named (ruleNumbered rule)) n 0 [] trace [])
   feeding-gives-the-walk =
@@ -168,7 +183,7 @@ module _ (rule n : ℕ) (trace : List ℕ) (feeds : feedable rule ≡ true) (som
   feeding-gives-the-count = ap fedFaults feeding-gives-the-walk ∙ faults-of-replies (outcomes (named (ruleNumbered rule)) n 0 [] trace [])
 
 -- THE SAME FROM FRESH: where its gate is open, up to 8,000 requests without the mark
-module _ (rule n : ℕ) (trace : List ℕ) (opens : freshOf rule n .gate ≡ Open) (short : length trace ≤ 8000) (clean : marked trace ≡ false) where
+module _ (rule n : ℕ) (trace : List ℕ) (opens : freshOf rule n .gate ≡ Open) (short : length trace ≤ requestLimit) (clean : marked trace ≡ false) where
   pub fresh-gives-the-walk : feeding (freshOf rule n .cache) trace ≡ map replyOf (outcomes (named (ruleNumbered rule)) n 0 [] trace [])
   fresh-gives-the-walk = let (f, h, k) = fresh-in-order rule n opens in rw (fresh-empty rule n opens) (feeding-gives-the-walk rule n trace f h k short clean)
 

@@ -1,13 +1,15 @@
 -- Document 01, the service Feed: one step of the walk on the record's entries as they stand.
 -- Assumes nothing.
+use mathlib.Core.Path.{_≡_}
 use mathlib.Core.List.{List, [], _∷_}
-use Prim.Native.Nat.{ℕ, _+_}
-use lib.Dec.{eqb}
-use Rattle.paging.specs.Lists.{not}
-use Rattle.paging.specs.Rules.{mark, noRequests}
+use Prim.Native.Nat.{ℕ, _+_, _<_}
+use lib.Dec.{eqb, ltb}
+use Rattle.paging.specs.Lists.{pick, not}
+use Rattle.paging.specs.Rules.{mark, noRequests, chosen}
 use Rattle.paging.specs.Refusals.{table}
-use Rattle.paging.specs.Walk.{outcome, next}
-use Rattle.paging.specs.Calls.{requestLimit, Test, test, gate}
+use Rattle.paging.specs.Walk.{holds, frameOf, entryAt, loadedAt, renewed, outcome, next}
+use Rattle.paging.specs.Calls.{frameLimit, requestLimit, Test, test, gate}
+use Rattle.paging.specs.declared.Entry.{Entry}
 use Rattle.paging.specs.declared.Gate.{Gate}
 use Rattle.paging.specs.declared.Gate.the-variants.{Open, No}
 use Rattle.paging.specs.declared.Outcome.{Outcome}
@@ -18,7 +20,7 @@ use Rattle.cache.specs.declared.Reply.{Reply}
 use Rattle.cache.specs.declared.Reply.the-variants.{Hit, Loaded, Dropped, Refused}
 use Rattle.cache.specs.declared.ReplyNumbers.{ReplyNumbers}
 use Rattle.cache.specs.declared.Fed.{Fed}
-use Rattle.cache.specs.Record.{heldEntries, ruleOf, holding}
+use Rattle.cache.specs.Record.{heldOf, heldEntries, ruleOf, holding}
 use Rattle.cache.specs.Sound.{sound}
 
 -- one request, of a record that is sound: the record's rule on its entries as they stand, the clock being the moment of the request
@@ -53,6 +55,40 @@ fedBy (No refusal) c p = record { outcome = Refused refusal; next = c }
 unfoldable pub fed : Cache → ℕ → Fed
 unfolding feedTests gate served
 fed c p = fedBy (gate (feedTests c p)) c p
+
+-- ---- what a request that is taken changes
+
+-- the frame: that of the page; else, with room, the lowest free one; else that of the page that the rule drops
+unfoldable pub changedFrame : Cache → ℕ → ℕ
+unfolding holds frameOf chosen
+changedFrame c p =
+    pick (holds p (heldEntries c)) (frameOf p (heldEntries c))
+    (pick (ltb (heldOf c) (c .frames)) (heldOf c) (chosen (ruleOf c) noRequests (heldEntries c)))
+
+-- its entry: the page requested again, or loaded, at the clock
+unfoldable pub changedEntry : Cache → ℕ → Entry
+unfolding holds changedFrame
+changedEntry c p =
+    pick (holds p (heldEntries c)) (renewed (c .clock) (entryAt (c .entries) (changedFrame c p))) (loadedAt (c .clock) p)
+
+-- how many entries are in use: one more where a free frame was taken
+unfoldable pub changedHeld : Cache → ℕ → ℕ
+unfolding holds
+changedHeld c p = pick (holds p (heldEntries c)) (heldOf c) (pick (ltb (heldOf c) (c .frames)) (heldOf c + 1) (heldOf c))
+
+-- document 01: the rule is applied to the entries of c as they stand, the clock is the moment of the new request, and every entry the rule doesn't change stays
+pub record Applied (c : Cache) (p : ℕ) (d : Cache) : Type 0 where
+  pub rule-stays : d .rule ≡ c .rule
+  pub frames-stay : d .frames ≡ c .frames
+  pub clock-on : d .clock ≡ c .clock + 1
+  pub held-now : heldOf d ≡ changedHeld c p
+  -- one frame of the cache has the page, requested at the clock
+  pub frame-inside : changedFrame c p < c .frames
+  pub entry-now : entryAt (d .entries) (changedFrame c p) ≡ changedEntry c p
+  pub page-now : changedEntry c p .page .0 ≡ p
+  pub last-now : changedEntry c p .last .0 ≡ c .clock
+  -- the others of the 256 stay
+  pub others-stay : (i : ℕ) → i < frameLimit → (i ≡ changedFrame c p → ⊥) → entryAt (d .entries) i ≡ entryAt (c .entries) i
 
 -- ---- feeding a trace, one request after the other
 

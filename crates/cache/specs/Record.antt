@@ -3,27 +3,22 @@
 -- A record is a state of the walk with its list of entries padded to 256 by blank ones.
 -- Assumes nothing.
 use mathlib.Core.List.{List, [], _∷_, _++_}
-use mathlib.Core.Bool.{Bool, true}
 use Prim.Native.Nat.{ℕ, _+_, _-_}
-use lib.Dec.{eqb}
 use lib.ListN.{length, take, replicate}
-use Rattle.paging.specs.Lists.{pick, not}
-use Rattle.paging.specs.Rules.{mark, ruleNumbered, named}
-use Rattle.paging.specs.Calls.{frameLimit, Test, test, gate, outside, traceTests}
+use Rattle.paging.specs.Lists.{not}
+use Rattle.paging.specs.Rules.{ruleNumbered, named}
+use Rattle.paging.specs.Calls.{frameLimit, Test, test, gate, outside}
 use Rattle.paging.specs.declared.Entry.{Entry}
 use Rattle.paging.specs.declared.Rule.{Rule}
 use Rattle.paging.specs.declared.Gate.{Gate}
 use Rattle.paging.specs.declared.Gate.the-variants.{Open, No}
 use Rattle.paging.specs.declared.Refusal.the-variants.{UnknownRule, FramesOutside}
+use Rattle.entries.specs.Blank.{blankEntry}
+use Rattle.soundness.specs.Sound.{feedable}
 use Rattle.cache.specs.declared.Cache.{Cache}
 use Rattle.cache.specs.declared.Fresh.{Fresh}
 
 -- ---- blank and empty
-
--- all marks
-abbrev pub blankEntry : Entry
-blankEntry =
-    record { page = record { 0 = mark }; loaded = record { 0 = mark }; last = record { 0 = mark }; earlier = record { 0 = mark } }
 
 -- the empty cache of a given rule and size
 abbrev pub emptyCache : ℕ → ℕ → Cache
@@ -65,10 +60,6 @@ holding c es =
 
 -- ---- Fresh
 
--- rule is 1, 2 or 4: MIN can't be fed
-abbrev pub feedable : ℕ → Bool
-feedable rule = pick (eqb rule 1) true (pick (eqb rule 2) true (eqb rule 4))
-
 unfoldable pub freshTests : ℕ → ℕ → List Test
 freshTests rule frames = test (not (feedable rule)) UnknownRule ∷ test (outside frames) (FramesOutside 0) ∷ []
 
@@ -79,9 +70,3 @@ freshBy (No refusal) rule frames = record { gate = No refusal; cache = blankCach
 unfoldable pub freshOf : ℕ → ℕ → Fresh
 unfolding freshTests gate
 freshOf rule frames = freshBy (gate (freshTests rule frames)) rule frames
-
--- ---- a whole trace under a rule that can be fed: 1, then 2, 3, 4
-
-unfoldable pub fedTests : ℕ → ℕ → List ℕ → List Test
-unfolding traceTests
-fedTests rule n trace = test (not (feedable rule)) UnknownRule ∷ traceTests n trace

@@ -22,7 +22,7 @@ fn reply(o: Outcome) -> Reply
 impl Cache {
     // Hit, loaded, or loaded with the page dropped, and the next record; or refusal 5, 4 or 8, in that order, and the record as it came.
     pub fn feed(self, page: Page) -> Fed
-        ensures { λ r. ⌜ r ≡ fed self (page .0) ⌝ }
+        ensures { λ r. ⌜ (r ≡ fed self (page .0)) × (replyNumbers (r .outcome) ≡ replyNumbers (fed self (page .0) .outcome)) ⌝ }
     {
         if !self.sound() {
             return Fed {

@@ -19,7 +19,8 @@ use Rattle.paging.specs.declared.Refusal.the-variants.{UnknownRule}
 use Rattle.paging.specs.declared.Gate.the-variants.{Open, No}
 use Rattle.paging.proofs.Services.{answered-open, answered-no, written-open, written-no, answered-same, written-same}
 use Rattle.calls.proofs.Chain.{lent-open}
-use Rattle.cache.specs.Record.{feedable, fedTests}
+use Rattle.soundness.specs.Sound.{feedable}
+use Rattle.runs.specs.Tests.{fedTests}
 use Rattle.counts.specs.Counts.{countOf, planTests, planAnswer, planWords}
 
 -- MIN is never refused by number

@@ -25,7 +25,8 @@ use Rattle.paging.proofs.Services.{written-open}
 use Rattle.paging.proofs.Writing.{plan-length, laid-whole}
 use Rattle.paging.specs.Meanings.{InOrder}
 use Rattle.calls.proofs.Chain.{trace-open}
-use Rattle.cache.specs.Record.{emptyCache, feedable, freshOf}
+use Rattle.soundness.specs.Sound.{feedable}
+use Rattle.cache.specs.Record.{emptyCache, freshOf}
 use Rattle.cache.specs.Feed.{feeding, fedPlan, fedFaults}
 use Rattle.cache.proofs.Soundness.{fresh-in-order, fresh-empty}
 use Rattle.cache.proofs.Feeding.{feeding-gives-the-plan, feeding-gives-the-count}

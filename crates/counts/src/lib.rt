@@ -15,7 +15,7 @@ fn run(rule: u32, n: u32, trace: &[u32], words: &mut [u32]) -> Answer
     if rule == 3 {
         return minimum::run(n, trace, words);
     }
-    cache::runs::run(rule, n, trace, words)
+    runs::run(rule, n, trace, words)
 }
 
 // Count: the faults of the rule with n frames, or refusal 1, 2, 3 or 4 in that order.

@@ -43,8 +43,8 @@ returns c =
     let b = p .before .before in
     let f = b .before .before in
     let s = f .before .before .before .before .before in (
-      rw (i .record-into .ensures, f .feed .ensures, f .before .record-of .ensures, le-ltb (length (s .args .cache .now)) recordLength (omega arith)) refl,
-      rw (p .put-reply .ensures, b .behind-room .ensures, f .feed .ensures, f .before .record-of .ensures)
+      rw (i .record-into .ensures, f .feed .ensures .0, f .before .record-of .ensures, le-ltb (length (s .args .cache .now)) recordLength (omega arith)) refl,
+      rw (p .put-reply .ensures, b .behind-room .ensures, f .feed .ensures .0, f .before .record-of .ensures)
           (ap (λ (r : Reply). laid (replyWords r) (s .args .answer .now)) (feed-chain (s .args .cache .now) (s .args .page) (length (s .args .next .now)))),
     )
 
@@ -59,7 +59,7 @@ returns-2 c =
     let f = b .before .before in
     let s = f .before .before .before .before .before in (
       rw (lt-ltb (length (s .args .cache .now)) recordLength (omega arith)) refl,
-      rw (p .put-reply .ensures, b .behind-room .ensures, f .feed .ensures, f .before .record-of .ensures)
+      rw (p .put-reply .ensures, b .behind-room .ensures, f .feed .ensures .0, f .before .record-of .ensures)
           (ap (λ (r : Reply). laid (replyWords r) (s .args .answer .now)) (feed-chain (s .args .cache .now) (s .args .page) (length (s .args .next .now)))),
     )
 

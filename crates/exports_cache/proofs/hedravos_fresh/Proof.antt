@@ -41,8 +41,8 @@ returns c =
     let g = i .before .before in
     let f = g .before .before .before in
     let s = f .before .before .before in (
-      rw (i .record-into .ensures, f .fresh .ensures) refl,
-      rw (c .before .before .lay .ensures, g .numbers .ensures, g .before .lent-gate .ensures, f .fresh .ensures)
+      rw (i .record-into .ensures, f .fresh .ensures .0) refl,
+      rw (c .before .before .lay .ensures, g .numbers .ensures, g .before .lent-gate .ensures, f .fresh .ensures .0)
           (ap (λ (x : Gate). laid (gateWords x) (s .args .answer .now)) (fresh-chain (s .args .rule) (s .args .n) (length (s .args .cache .now)))),
     )
 

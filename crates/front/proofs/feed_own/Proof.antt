@@ -65,14 +65,18 @@ Arg = RefT Cache × (Page × Unit {0})
 abbrev stayed : Stays (own.ended .signature .params) (own.ended .kept)
 stayed = (stay-ref (0 ∷ []) tt (plain (λ _. T.the-row)), (stay-none (λ _. P.the-row) yes, tt))
 
+-- what Feed promises
+abbrev Told : Cache → Page → Fed → Type 0
+Told h p r = (r ≡ fed h (p .0)) × (replyNumbers (r .outcome) ≡ replyNumbers (fed h (p .0) .outcome))
+
 module _ {M : Type 1} (𝓤 : URA M) (H : Heap 𝓤) (A : Atoms 𝓤) (at-mem : Memory → SProp 𝓤) (run : Routine → Fun 𝓤) where
   -- Feed's contract, which the proof cites
   abbrev Feed : Contract 𝓤
   Feed = tripleOf 𝓤 H A feed.signature (feed.spec 𝓤 H A at-mem run)
 
   -- what it ensures: it has no `&mut`, so what is said of last values is let go
-  fed-of : (h : Cache) (p : Page) (r : Fed) → ent 𝓤 (ensured 𝓤 H A feed.ended (feed.clauses 𝓤 H A at-mem run) tt (h, (p, tt)) tt r) (fact 𝓤 (r ≡ fed h (p .0)))
-  fed-of h p r = exE 𝓤 _ (λ ws. snd∗ 𝓤 (sem 𝓤 H A (lasts feed.ended tt (h, (p, tt)) ws)) (fact 𝓤 (r ≡ fed h (p .0))))
+  fed-of : (h : Cache) (p : Page) (r : Fed) → ent 𝓤 (ensured 𝓤 H A feed.ended (feed.clauses 𝓤 H A at-mem run) tt (h, (p, tt)) tt r) (fact 𝓤 (Told h p r))
+  fed-of h p r = exE 𝓤 _ (λ ws. snd∗ 𝓤 (sem 𝓤 H A (lasts feed.ended tt (h, (p, tt)) ws)) (fact 𝓤 (Told h p r)))
 
 module _ {M : Type 1} (𝓤 : URA M) (H : Heap 𝓤) (A : Atoms 𝓤) (W : Given 𝓤 H A) (at-mem : Memory → SProp 𝓤) (run : Routine → Fun 𝓤) (κ : Lft) (q : Share) (b o : ℕ) (γ : GName) (h : Cache) (p : Page) where
   abbrev x : Arg
@@ -127,7 +131,7 @@ module _ {M : Type 1} (𝓤 : URA M) (H : Heap 𝓤) (A : Atoms 𝓤) (W : Given
         move ! (0 ∷ 15 ∷ []) $ use2 W (raw (Feed 𝓤 H A at-mem run .pre to-feed)) goes-feed $
         calls-at ! fm (Feed 𝓤 H A at-mem run) known to-feed (and-then ! (load ! (from ! (stop !)) (look ! 7 refl)) (and-then ! (load ! (from ! (stop !)) (look ! 9 refl)) (no-more !))) (λ v.
         use1 W (later (some (λ (r : Fed). (‵ ftrue ⊛ ‵ (F.the-row .own r (v ∷ []))) ⊛ raw (ensured 𝓤 H A feed.ended (feed.clauses 𝓤 H A at-mem run) tt (h, (p, tt)) tt r)))) (id⊢ 𝓤 _) $ await ! tt $ pick ! (λ r.
-        split ! $ move ! (1 ∷ []) $ use1 W (raw (fact 𝓤 (r ≡ fed h (p .0)))) (fed-of 𝓤 H A at-mem run h p r) $ heard ! (r ≡ fed h (p .0)) (λ e. split ! $ drop ! $
+        split ! $ move ! (1 ∷ []) $ use1 W (raw (fact 𝓤 (Told h p r))) (fed-of 𝓤 H A at-mem run h p r) $ heard ! (Told h p r) (λ e. split ! $ drop ! $
         peeks ! F.the-row (Is F.the-row) (shows 𝓤 H A F.the-row) r (v ∷ []) (λ is.
         -- [what the answer owns; the record's cell; the open borrow; obs; auth; room for _4; …; _3; …; _2; …; _1; …; room for _0; …; true; true]
         land ! (from ! (stop !)) (init ! 5 refl (LL.lawful F.the-type F′.the-laws 𝓤 H A W .typed r _ is .0)) $
@@ -141,7 +145,7 @@ module _ {M : Type 1} (𝓤 : URA M) (H : Heap 𝓤) (A : Atoms 𝓤) (W : Given
         -- [obs; the borrow; the token; _4; …; _3; …; _2; …; _1; …; _0; …; true; true]
         returns ! (look ! 11 refl) $ forget ! 3 refl $ forget ! 5 refl $ forget ! 7 refl $ forget ! 9 refl $ forget ! 11 refl $
         move ! (11 ∷ 12 ∷ []) $ free1 ! $ move ! (9 ∷ 10 ∷ []) $ free1 ! $ move ! (7 ∷ 8 ∷ []) $ free1 ! $ move ! (5 ∷ 6 ∷ []) $ free1 ! $ move ! (3 ∷ 4 ∷ []) $ free1 ! $ free0 ! $
-        keep ! (0 ∷ 1 ∷ 2 ∷ []) $ by ! (exits r e ip (LL.owed F.the-type F′.the-laws r (v ∷ []) is .0))))))))))))))
+        keep ! (0 ∷ 1 ∷ 2 ∷ []) $ by ! (exits r (e .0) ip (LL.owed F.the-type F′.the-laws r (v ∷ []) is .0))))))))))))))
 
 module _ {M : Type 1} (𝓤 : URA M) (H : Heap 𝓤) (A : Atoms 𝓤) (W : Given 𝓤 H A) (at-mem : Memory → SProp 𝓤) (run : Routine → Fun 𝓤) where
   own-walks : (C : Calls 𝓤 H) (Λ : Loops 𝓤 H) → FmC 𝓤 H (W .laws) C → Triple 𝓤 (C #cache·feed) (Feed 𝓤 H A at-mem run) → Walks 𝓤 H A own.ended stayed (WpFn 𝓤 H C Λ code.function) (own.clauses 𝓤 H A at-mem run)

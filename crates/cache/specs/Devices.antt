@@ -1,0 +1,2 @@
+-- Devices: what private functions answer. Document 01's words don't stand here.
+pub mod Step

@@ -1,0 +1,3 @@
+-- What the proofs of the search among entries use, and its laws.
+pub mod Long
+pub mod Search

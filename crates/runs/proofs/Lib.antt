@@ -1,0 +1,2 @@
+-- What the proofs of a whole trace use.
+pub mod Running

@@ -1,0 +1,2 @@
+-- What the contract of a whole trace cites.
+pub mod Tests

@@ -1,0 +1,2 @@
+-- What the proofs of one request use.
+pub mod Inside

@@ -1,0 +1,2 @@
+-- What one request over a record's parts answers.
+pub mod Devices

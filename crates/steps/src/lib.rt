@@ -1,0 +1,103 @@
+// One request over a record's parts: rule, frames, how many entries are in use, and the 256 entries.
+// It asks nothing of them; that it is document 01's step wherever they are sound is proved in crate `cache` (`served-steps`).
+ghost use mathlib.Core.Path.{_≡_};
+ghost use Prim.Native.Nat.{_<_};
+ghost use lib.ListN.{set};
+ghost use Rattle.paging.specs.Calls.{frameLimit};
+ghost use Rattle.steps.specs.Devices.Step.{hitStep, fullStep, loadStep, stepped};
+use entries::Found;
+use paging::Entry;
+use paging::Frame;
+use paging::Moment;
+use paging::Outcome;
+use paging::Page;
+
+// What a request came to, and the entries after it.
+pub struct After {
+    pub outcome: Outcome,
+    pub held: u32,
+    pub entries: [Entry; calls::FRAMES as usize],
+}
+
+// The entries with one written into a frame; a frame past the last is none.
+fn put(
+    entries: [Entry; calls::FRAMES as usize],
+    frame: Frame,
+    entry: Entry,
+) -> [Entry; calls::FRAMES as usize]
+    ensures { λ r. ⌜ r ≡ set entries (frame .0) entry ⌝ }
+{
+    let at = frame.0 as usize;
+    let mut after = entries;
+    if at < calls::FRAMES as usize {
+        after[at] = entry;
+    }
+    after
+}
+
+// The page is held in a frame: its entry is renewed.
+fn hit(held: u32, entries: [Entry; calls::FRAMES as usize], frame: Frame, now: Moment) -> After
+    requires { ⌜ frame .0 < frameLimit ⌝ }
+    ensures { λ r. ⌜ r ≡ hitStep held entries (frame .0) (now .0) ⌝ }
+{
+    let at = frame.0 as usize;
+    let old = entries[at];
+    let entry = entries::renewed(old, now);
+    After {
+        outcome: Outcome::Hit,
+        held: held,
+        entries: put(entries, frame, entry),
+    }
+}
+
+// All frames are in use: the entry comes in place of the one with the least key.
+fn replace(rule: u32, held: u32, entries: [Entry; calls::FRAMES as usize], entry: Entry) -> After
+    ensures { λ r. ⌜ r ≡ fullStep rule held entries entry ⌝ }
+{
+    let frame = entries::least(entries, held, rule);
+    let at = frame.0 as usize;
+    let old = entries[at];
+    let dropped = old.page;
+    After {
+        outcome: Outcome::Dropped(dropped),
+        held: held,
+        entries: put(entries, frame, entry),
+    }
+}
+
+// An entry comes in: into the lowest free frame, or in place of another.
+fn load(
+    rule: u32,
+    frames: u32,
+    held: u32,
+    entries: [Entry; calls::FRAMES as usize],
+    entry: Entry,
+) -> After
+    ensures { λ r. ⌜ r ≡ loadStep rule frames held entries entry ⌝ }
+{
+    if held < frames {
+        return After {
+            outcome: Outcome::Loaded,
+            held: held + 1,
+            entries: put(entries, Frame(held), entry),
+        };
+    }
+    replace(rule, held, entries, entry)
+}
+
+// The request of a page at this moment.
+pub fn step(
+    rule: u32,
+    frames: u32,
+    now: Moment,
+    held: u32,
+    entries: [Entry; calls::FRAMES as usize],
+    page: Page,
+) -> After
+    ensures { λ r. ⌜ r ≡ stepped rule frames (now .0) (page .0) held entries ⌝ }
+{
+    match entries::find(entries, held, page) {
+        Found::At(frame) => hit(held, entries, frame, now),
+        Found::Nothing => load(rule, frames, held, entries, entries::loaded_at(now, page)),
+    }
+}
