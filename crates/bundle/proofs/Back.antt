@@ -1,19 +1,15 @@
--- Words to bytes and back: reading the bytes of words gives the words, and the bytes of the words read are the bytes.
+-- Words to bytes and back: reading the bytes of words gives the words, the bytes of the words read are the bytes, and words of bytes are below 2^32.
 -- Assumes nothing.
 use mathlib.Core.Path.{_≡_, refl, ap, ap₂, _∙_}
 use mathlib.Core.List.{List, [], _∷_, _++_, append-assoc}
 use Prim.Native.Nat.{ℕ, zero, suc, _+_, _*_, _/_, _%_, _<_}
 use native.Mathlib.Omega.{arith}
-use lib.ListN.{length}
+use lib.ListN.{length, getD}
 use lib.Seq.{getD-append-add}
 use Rattle.words.specs.Bytes.{wordAt, wordsAt}
 use Rattle.bundle.specs.Bytes.{bytesOf, bytesIn, section}
 use Rattle.bundle.specs.Writing.{fileOf}
-
--- every number of a list is below a bound: 256 for bytes, 4,294,967,296 for words
-abbrev pub Below : ℕ → List ℕ → Type 0
-Below bound [] = Unit {0}
-Below bound (x ∷ xs) = (x < bound) × Below bound xs
+use Rattle.bundle.specs.Accepted.{Below}
 
 -- ---- behind other bytes
 
@@ -112,6 +108,23 @@ bytes-back (suc count) (a ∷ b ∷ c ∷ d ∷ file) s e =
     ap₂ (λ (xs ys : List ℕ). xs ++ ys)
     (bytes-again a b c d (s .0) (s .1 .0) (s .1 .1 .0) (s .1 .1 .1 .0))
     (ap bytesIn (words-behind (a ∷ b ∷ c ∷ d ∷ []) file 0 count) ∙ bytes-back count file (s .1 .1 .1 .1) (omega arith))
+
+-- ---- words of bytes are below 2^32
+
+byte-small : (file : List ℕ) → Below 256 file → (i : ℕ) → getD file i 0 < 256
+byte-small [] s zero = omega arith
+byte-small [] s (suc i) = omega arith
+byte-small (x ∷ xs) s zero = s .0
+byte-small (x ∷ xs) s (suc i) = byte-small xs (s .1) i
+
+word-small : (file : List ℕ) → Below 256 file → (at : ℕ) → wordAt file at < 4294967296
+unfolding wordAt
+word-small file s at = omega (arith, byte-small file s at, byte-small file s (at + 1), byte-small file s (at + 2), byte-small file s (at + 3))
+
+pub words-small : (file : List ℕ) → Below 256 file → (at count : ℕ) → Below 4294967296 (wordsAt file at count)
+unfolding wordsAt
+words-small file s at zero = tt
+words-small file s at (suc count) = (word-small file s at, words-small file s (at + 4) count)
 
 -- ---- words in two parts
 

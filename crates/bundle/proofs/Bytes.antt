@@ -1,21 +1,15 @@
--- Laws of words and bytes: how many there are, one word more, bytes put over others one after another, and the first mark among words.
+-- Laws of words and bytes: how many there are, one word more, and bytes put over others one after another.
 -- Assumes nothing.
 use mathlib.Core.Path.{_≡_, refl, sym, ap, ap₂, _∙_}
-use mathlib.Core.Bool.{true, false}
 use mathlib.Core.List.{List, [], _∷_, _++_, append-assoc, append-nil}
-use Prim.Native.Nat.{ℕ, zero, suc, _+_, _*_, _-_, _/_, _%_, _≤_, _<_}
+use Prim.Native.Nat.{ℕ, suc, _+_, _*_, _/_, _%_, _≤_, _<_}
 use native.Mathlib.Numerals.{add-one}
 use native.Mathlib.Omega.{arith}
 use lib.ListN.{length, getD, take, drop, set, length-append, length-take, length-drop, take-append-drop}
 use lib.Seq.{length-take-le, take-suc, take-at, drop-append-add, drop-drop, sets-eq}
-use borrow.Author.Tests.{eq-eqb, ne-eqb}
-use Rattle.paging.specs.Rules.{mark}
-use Rattle.paging.specs.Lists.{mem, placeOf}
-use Rattle.paging.specs.Calls.{marked, firstMark}
 use Rattle.paging.specs.Services.{laid}
 use Rattle.paging.proofs.Writing.{laid-whole}
-use Rattle.calls.proofs.Search.{found-mem, lost-mem}
-use Rattle.words.specs.Bytes.{wordAt, wordsAt}
+use Rattle.words.specs.Bytes.{wordsAt}
 use Rattle.words.proofs.Bytes.{length-words}
 use Rattle.bundle.specs.Bytes.{bytesOf, bytesIn, section}
 use Rattle.bundle.specs.Devices.Over.{over}
@@ -114,34 +108,3 @@ put-whole room at words h =
     let e : at + 4 ≡ at + length (bytesOf (length words)) = omega (arith, length-word (length words)) in
     let f : at + 4 + length (bytesIn words) ≤ length room = omega (arith, length-bytes words) in
     over-next at (at + 4) (bytesOf (length words)) (bytesIn words) room e f
-
--- ---- the first mark among the words of a file, for a loop that has passed some
-
-pub mark-start : (file : List ℕ) (count : ℕ) → 0 + firstMark (wordsAt file (16 + 4 * 0) (count - 0)) ≡ firstMark (wordsAt file 16 count)
-mark-start file count = let e : count - 0 ≡ count = omega arith in rw e (omega arith)
-
-module _ (file : List ℕ) (count i : ℕ) where
-  pub mark-here : i < count → wordAt file (16 + 4 * i) ≡ mark → firstMark (wordsAt file (16 + 4 * i) (count - i)) ≡ 0
-  unfolding firstMark wordsAt
-  mark-here h e = let k : count - i ≡ suc (count - (i + 1)) = omega arith in rw (k, eq-eqb _ _ e)
-
-  pub mark-on : i < count → (wordAt file (16 + 4 * i) ≡ mark → ⊥)
-      → firstMark (wordsAt file (16 + 4 * i) (count - i)) ≡ suc (firstMark (wordsAt file (16 + 4 * (i + 1)) (count - (i + 1))))
-  unfolding firstMark wordsAt
-  mark-on h e =
-      let k : count - i ≡ suc (count - (i + 1)) = omega arith in
-      let a : 16 + 4 * i + 4 ≡ 16 + 4 * (i + 1) = omega arith in
-      rw (k, ne-eqb _ _ e, a)
-
-  pub mark-end : count ≤ i → firstMark (wordsAt file (16 + 4 * i) (count - i)) ≡ 0
-  unfolding firstMark wordsAt
-  mark-end h = let k : count - i ≡ 0 = omega arith in rw k
-
--- a mark is told where there is one
-pub mark-found : (words : List ℕ) → firstMark words < length words → marked words ≡ true
-unfolding marked firstMark mem placeOf
-mark-found words h = found-mem mark words h
-
-pub mark-lost : (words : List ℕ) → length words ≤ firstMark words → marked words ≡ false
-unfolding marked firstMark mem placeOf
-mark-lost words h = lost-mem mark words h

@@ -1,80 +1,40 @@
 -- Document 01, "Bundle file": "reading what it wrote gives the same values, and writing what was read gives the same bytes".
 --
--- In order: which files are accepted; the largest file; a written file is accepted with its values; a file that was read is written again.
--- That a file has one reading is proved in proofs/OneReading.antt.
+-- In order: the largest file; a written file is accepted with its values; a file that was read is written again.
+-- Which files are accepted is proved in proofs/Accepted.antt, that a file has one reading in proofs/OneReading.antt.
 -- Assumes nothing.
 use mathlib.Core.Path.{_≡_, refl, sym, ap, ap₂, _∙_}
-use mathlib.Core.Bool.{Bool, true, false}
-use mathlib.Core.Logic.{_↔_}
+use mathlib.Core.Bool.{true, false}
 use mathlib.Core.List.{List, [], _∷_, _++_, append-nil}
 use Prim.Native.Nat.{ℕ, suc, _+_, _*_, _≤_, _<_}
 use native.Mathlib.Omega.{arith}
 use lib.Dec.{ltb}
 use lib.ListN.{length, take, drop}
 use lib.Seq.{take-at}
-use borrow.Author.Tests.{le-ltb, eq-eqb, ltb-false}
-use Rattle.paging.specs.Lists.{pick}
+use borrow.Author.Tests.{le-ltb, ltb-false}
 use Rattle.paging.specs.Calls.{frameLimit, requestLimit, test, gate, outside, marked, traceTests}
 use Rattle.paging.specs.declared.Gate.{Gate}
 use Rattle.paging.specs.declared.Gate.the-variants.{Open, No}
 use Rattle.paging.specs.declared.Refusal.the-variants.{LentTooShort}
 use Rattle.words.specs.Bytes.{wordAt, wordsAt}
-use Rattle.bundle.specs.Bytes.{bytesIn}
-use Rattle.bundle.specs.Reading.{requestCount, planPlace, planCount, fileEnd, fileRequests, filePlan, planFits, formTests, sizeTests, valueTests, readTests, sizesOf, sizesBy, readOf, requestsLeft, planLeft}
-use Rattle.bundle.specs.Writing.{fileOf, callTests, writeTests, bytesBy, writeOf, roomLeft}
-use Rattle.bundle.specs.declared.Sizes.{Sizes}
-use Rattle.bundle.specs.declared.ReadAnswer.the-variants.{Bundle}
-use Rattle.bundle.specs.declared.WriteAnswer.the-variants.{Bytes}
 use Rattle.words.proofs.Bytes.{length-words}
+use Rattle.reading.specs.Reading.{requestCount, planPlace, planCount, fileRequests, filePlan, planFits, sizeTests, sizesOf, readOf}
+use Rattle.reading.specs.declared.Sizes.{Sizes}
+use Rattle.reading.specs.declared.ReadAnswer.the-variants.{Bundle}
+use Rattle.reading.proofs.Chains.{passes, met, inside, first-open, OpenFile, open-file, file-opens, bundle-open}
+use Rattle.bundle.specs.Bytes.{bytesIn}
+use Rattle.bundle.specs.Reading.{requestsLeft, planLeft}
+use Rattle.bundle.specs.Writing.{fileOf, callTests, writeTests, bytesBy, writeOf, roomLeft}
+use Rattle.bundle.specs.Accepted.{Below}
+use Rattle.bundle.specs.declared.WriteAnswer.the-variants.{Bytes}
 use Rattle.bundle.proofs.Bytes.{length-bytes, bytes-append}
-use Rattle.bundle.proofs.Chains.{passes, met, first-open, Accepted, accepted, read-done, length-file, call-requests, call-planned, write-done}
-use Rattle.bundle.proofs.Back.{Below, words-behind, words-back, bytes-back, words-append, file-words}
-
--- ---- which files are accepted
-
-accepting : (file : List ℕ) (a b : ℕ) → Accepted file a b → gate (readTests file a b) ≡ Open
-unfolding gate readTests formTests valueTests sizeTests
-accepting file a b d =
-    let w : length file ≡ fileEnd file = d .form .whole in
-    let one : 4 ≤ length file = omega arith in
-    let two : 16 ≤ length file = omega arith in
-    let three : planPlace file + 4 ≤ length file = omega arith in
-    let four : fileEnd file ≤ length file = omega arith in
-    let five : length file ≤ fileEnd file = omega arith in
-    rw (
-      le-ltb (length file) 4 one,
-      eq-eqb (wordAt file 0) 2 (d .form .sizes),
-      le-ltb (length file) 16 two,
-      le-ltb requestLimit (requestCount file) (d .form .requests),
-      le-ltb (length file) (planPlace file + 4) three,
-      d .form .fits,
-      le-ltb (length file) (fileEnd file) four,
-      le-ltb (fileEnd file) (length file) five,
-      d .frames,
-      d .plan-frames,
-      d .above,
-      d .unmarked,
-      le-ltb a (requestCount file) (d .room),
-      le-ltb b (planCount file) (d .plan-room),
-    )
-
--- a file is accepted exactly when it is one of document 01's bundles and there is room for both lists
-pub accepted-exactly : (file : List ℕ) (a b : ℕ) → (gate (readTests file a b) ≡ Open) ↔ Accepted file a b
-accepted-exactly file a b = (accepted file a b, accepting file a b)
-
--- an answer with sizes comes through an open gate, and they are the file's
-pub bundle-open : (file : List ℕ) (a b : ℕ) (sizes : Sizes) → readOf file a b ≡ Bundle sizes → (gate (readTests file a b) ≡ Open) × (sizesOf file ≡ sizes)
-unfolding readOf
-bundle-open file a b sizes e = go (gate (readTests file a b)) refl e
-  where
-    go : (g : Gate) → gate (readTests file a b) ≡ g → sizesBy g (sizesOf file) ≡ Bundle sizes → (gate (readTests file a b) ≡ Open) × (sizesOf file ≡ sizes)
-    go Open q e = (q, cc)
-    go (No refusal) q e = absurd (let k : _≡_ {A = ℕ} 0 1 = cc in omega arith)
+use Rattle.bundle.proofs.Chains.{read-done, length-file, call-requests, call-planned, write-done}
+use Rattle.bundle.proofs.Back.{words-behind, words-back, bytes-back, words-append, file-words}
 
 -- "The largest file is 64,020 bytes"
 pub no-longer-file : (file : List ℕ) (a b : ℕ) (sizes : Sizes) → readOf file a b ≡ Bundle sizes → length file ≤ 64020
 no-longer-file file a b sizes e =
-    let d : Accepted file a b = accepted file a b (bundle-open file a b sizes e .0) in
+    let d : OpenFile file a b = open-file file a b (bundle-open file a b sizes e .0) in
     omega (arith, d .form .whole, d .form .requests, d .form .planned)
 
 -- ---- reading what was written
@@ -90,11 +50,11 @@ module _ (n m : ℕ) (trace plan : List ℕ) (o : gate (callTests n m trace (len
   unfolding callTests
   outside-n = passes (callTests n m trace (length plan)) 0 o (omega arith)
 
-  outside-m : outside m ≡ false
+  pub outside-m : outside m ≡ false
   unfolding callTests
   outside-m = passes (callTests n m trace (length plan)) 1 o (omega arith)
 
-  m-below : ltb n m ≡ false
+  pub m-below : ltb n m ≡ false
   unfolding callTests
   m-below = passes (callTests n m trace (length plan)) 2 o (omega arith)
 
@@ -102,18 +62,15 @@ module _ (n m : ℕ) (trace plan : List ℕ) (o : gate (callTests n m trace (len
   unfolding callTests
   trace-unmarked = passes (callTests n m trace (length plan)) 5 o (omega arith)
 
-  plan-fits : planFits (length trace) (length plan) ≡ true
+  pub plan-fits : planFits (length trace) (length plan) ≡ true
   unfolding callTests
   plan-fits = met _ (passes (callTests n m trace (length plan)) 6 o (omega arith))
 
-  small-n : (n < 4294967296) × (m < 4294967296)
-  small-n = go (ltb n 1) (ltb frameLimit n) (ltb n m) refl refl refl outside-n m-below
-    where
-      go : (a b c : Bool) → ltb n 1 ≡ a → ltb frameLimit n ≡ b → ltb n m ≡ c → pick a true b ≡ false → c ≡ false → (n < 4294967296) × (m < 4294967296)
-      go true b c p q r e f = absurd (let k : _≡_ {A = ℕ} 0 1 = cc in omega arith)
-      go false true c p q r e f = absurd (let k : _≡_ {A = ℕ} 0 1 = cc in omega arith)
-      go false false true p q r e f = absurd (let k : _≡_ {A = ℕ} 0 1 = cc in omega arith)
-      go false false false p q r e f = let h : n ≤ frameLimit = ltb-false frameLimit n q in let k : m ≤ n = ltb-false n m r in (omega arith, omega arith)
+  small-sizes : (n < 4294967296) × (m < 4294967296)
+  small-sizes =
+      let h : n ≤ frameLimit = inside n outside-n .1 in
+      let k : m ≤ n = ltb-false n m m-below in
+      (omega arith, omega arith)
 
   module _ (wt : Below 4294967296 trace) (wp : Below 4294967296 plan) where
     front-words : wordsAt (fileOf n m trace plan) 0 (length (2 ∷ n ∷ m ∷ length trace ∷ trace)) ≡ 2 ∷ n ∷ m ∷ length trace ∷ trace
@@ -122,7 +79,7 @@ module _ (n m : ℕ) (trace plan : List ℕ) (o : gate (callTests n m trace (len
         let small : length trace < 4294967296 = omega arith in
         let two : 2 < 4294967296 = omega arith in
         rw (file-words n m trace plan)
-        (words-back (2 ∷ n ∷ m ∷ length trace ∷ trace) (bytesIn (length plan ∷ plan)) (two, (small-n .0, (small-n .1, (small, wt)))))
+        (words-back (2 ∷ n ∷ m ∷ length trace ∷ trace) (bytesIn (length plan ∷ plan)) (two, (small-sizes .0, (small-sizes .1, (small, wt)))))
 
     back-words : wordsAt (fileOf n m trace plan) (16 + 4 * length trace) (length (length plan ∷ plan)) ≡ length plan ∷ plan
     back-words =
@@ -156,7 +113,7 @@ module _ (n m : ℕ) (trace plan : List ℕ) (o : gate (callTests n m trace (len
     unfolding filePlan
     same-plan = ap₂ (λ (t k : ℕ). wordsAt (fileOf n m trace plan) (16 + 4 * t + 4) k) (front-parts .3) same-count ∙ back-parts .1
 
-    written-accepted : (a b : ℕ) → length trace ≤ a → length plan ≤ b → Accepted (fileOf n m trace plan) a b
+    pub written-accepted : (a b : ℕ) → length trace ≤ a → length plan ≤ b → OpenFile (fileOf n m trace plan) a b
     written-accepted a b ha hb =
         let t : requestCount (fileOf n m trace plan) ≡ length trace = front-parts .3 in
         let p : planCount (fileOf n m trace plan) ≡ length plan = same-count in
@@ -180,18 +137,18 @@ module _ (n m : ℕ) (trace plan : List ℕ) (o : gate (callTests n m trace (len
           plan-room = omega arith;
         }
 
+    pub written-sizes : sizesOf (fileOf n m trace plan) ≡ record { n = n; m = m; requests = length trace; planned = length plan }
+    written-sizes = rw (front-parts .1, front-parts .2, front-parts .3, back-parts .0)
+
     read-back : (requests lent : List ℕ) → length trace ≤ length requests → length plan ≤ length lent
         → (readOf (fileOf n m trace plan) (length requests) (length lent) ≡ Bundle (record { n = n; m = m; requests = length trace; planned = length plan }))
         × (requestsLeft (fileOf n m trace plan) requests (length lent) ≡ trace ++ drop (length trace) requests)
         × (planLeft (fileOf n m trace plan) (length requests) lent ≡ plan ++ drop (length plan) lent)
     unfolding fileRequests filePlan
     read-back requests lent ha hb =
-        let g = accepting (fileOf n m trace plan) (length requests) (length lent) (written-accepted (length requests) (length lent) ha hb) in
-        let d = read-done (fileOf n m trace plan) requests lent g in
-        let s : sizesOf (fileOf n m trace plan) ≡ record { n = n; m = m; requests = length trace; planned = length plan } =
-        rw (front-parts .1, front-parts .2, front-parts .3, back-parts .0)
-        in (
-          sym (d .0) ∙ ap Bundle s,
+        let g = file-opens (fileOf n m trace plan) (length requests) (length lent) (written-accepted (length requests) (length lent) ha hb) in
+        let d = read-done (fileOf n m trace plan) requests lent g in (
+          sym (d .0) ∙ ap Bundle written-sizes,
           sym (d .1) ∙ ap₂ (λ (ws : List ℕ) (t : ℕ). ws ++ drop t requests) same-requests (front-parts .3),
           sym (d .2) ∙ ap₂ (λ (ws : List ℕ) (t : ℕ). ws ++ drop t lent) same-plan same-count,
         )
@@ -240,8 +197,8 @@ reading-what-was-written n m k trace plan room file requests lent wt wp e f ha h
 
 -- ---- writing what was read
 
-module _ (file : List ℕ) (a b : ℕ) (d : Accepted file a b) where
-  again-open : gate (callTests (wordAt file 4) (wordAt file 8) (fileRequests file) (length (filePlan file))) ≡ Open
+module _ (file : List ℕ) (a b : ℕ) (d : OpenFile file a b) where
+  pub again-open : gate (callTests (wordAt file 4) (wordAt file 8) (fileRequests file) (length (filePlan file))) ≡ Open
   unfolding gate callTests sizeTests traceTests fileRequests filePlan
   again-open =
       let t : length (fileRequests file) ≡ requestCount file = length-words file 16 (requestCount file) in
@@ -258,7 +215,7 @@ module _ (file : List ℕ) (a b : ℕ) (d : Accepted file a b) where
       ap (λ (k : ℕ). wordsAt file 0 (suc (suc (suc (suc (requestCount file))))) ++ wordsAt file k (suc (planCount file))) e
       ∙ sym (words-append file 0 (suc (suc (suc (suc (requestCount file))))) (suc (planCount file)))
 
-  same-bytes : Below 256 file → fileOf (wordAt file 4) (wordAt file 8) (fileRequests file) (filePlan file) ≡ file
+  pub same-bytes : Below 256 file → fileOf (wordAt file 4) (wordAt file 8) (fileRequests file) (filePlan file) ≡ file
   unfolding fileRequests filePlan
   same-bytes s =
       let l : length file ≡ 4 * (suc (suc (suc (suc (requestCount file)))) + suc (planCount file)) = omega (arith, d .form .whole) in
@@ -298,7 +255,7 @@ pub writing-what-was-read : (file requests lent room : List ℕ) (sizes : Sizes)
     → (writeOf (sizes .n) (sizes .m) trace plan (length room) ≡ Bytes (length file))
     × (roomLeft (sizes .n) (sizes .m) trace plan room ≡ file ++ drop (length file) room)
 writing-what-was-read file requests lent room sizes trace plan s e f g h =
-    let d = accepted file (length requests) (length lent) (bundle-open file (length requests) (length lent) sizes e .0) in
+    let d = open-file file (length requests) (length lent) (bundle-open file (length requests) (length lent) sizes e .0) in
     let (z, there, then) = read-words file requests lent sizes e in
     let t : trace ≡ fileRequests file = sym f ∙ there in
     let p : plan ≡ filePlan file = sym g ∙ then in

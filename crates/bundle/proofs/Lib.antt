@@ -3,5 +3,5 @@ pub mod Bytes
 pub mod Chains
 pub mod Back
 pub mod Laws
+pub mod Accepted
 pub mod OneReading
-pub mod Longer

@@ -15,14 +15,16 @@ use Rattle.paging.specs.declared.Refusal.the-variants.{LentTooShort}
 use Rattle.calls.specs.Chain.{andThen}
 use Rattle.calls.proofs.Chain.{gate-append}
 use Rattle.words.specs.Bytes.{wordAt}
-use Rattle.bundle.specs.Reading.{requestCount, planCount, fileRequests, filePlan, formTests, valueTests, readTests, sizesOf, sizesBy, readOf, requestsLeft, planLeft}
+use Rattle.reading.specs.Reading.{requestCount, planCount, fileRequests, filePlan, formTests, valueTests, readTests, sizesOf, sizesBy, readOf}
+use Rattle.reading.specs.declared.Sizes.{Sizes}
+use Rattle.reading.specs.declared.ReadAnswer.the-variants.{Bundle, Refused}
+use Rattle.reading.proofs.Chains.{OpenFile, open-file, file-opens, bundle-open}
+use Rattle.bundle.specs.Reading.{requestsLeft, planLeft}
 use Rattle.bundle.specs.Writing.{fileOf, callTests, writeOf, roomLeft}
-use Rattle.bundle.specs.declared.Sizes.{Sizes}
-use Rattle.bundle.specs.declared.ReadAnswer.the-variants.{Bundle, Refused}
+use Rattle.bundle.specs.Accepted.{Below}
 use Rattle.bundle.specs.declared.WriteAnswer.the-variants.{Bytes}
-use Rattle.bundle.proofs.Chains.{Accepted, accepted, read-done}
-use Rattle.bundle.proofs.Back.{Below}
-use Rattle.bundle.proofs.Laws.{accepted-exactly, bundle-open, front-parts, same-requests, same-plan, written-file, read-words}
+use Rattle.bundle.proofs.Chains.{read-done}
+use Rattle.bundle.proofs.Laws.{front-parts, same-requests, same-plan, written-file, read-words}
 
 -- ---- two writings that make the same file
 
@@ -87,8 +89,8 @@ pub one-reading : (file requests lent requests′ lent′ : List ℕ) (sizes : S
     × (take (sizes .planned) (planLeft file (length requests′) lent′) ≡ take (sizes .planned) (planLeft file (length requests) lent))
 one-reading file requests lent requests′ lent′ sizes e room plan-room =
     let (z, there, then) = read-words file requests lent sizes e in
-    let d = accepted file (length requests) (length lent) (bundle-open file (length requests) (length lent) sizes e .0) in
-    let d′ : Accepted file (length requests′) (length lent′) =
+    let d = open-file file (length requests) (length lent) (bundle-open file (length requests) (length lent) sizes e .0) in
+    let d′ : OpenFile file (length requests′) (length lent′) =
     record {
       form = d .form;
       frames = d .frames;
@@ -100,6 +102,6 @@ one-reading file requests lent requests′ lent′ sizes e room plan-room =
     }
     in
     let e′ : readOf file (length requests′) (length lent′) ≡ Bundle sizes =
-    sym (read-done file requests′ lent′ (accepted-exactly file (length requests′) (length lent′) .1 d′) .0) ∙ ap Bundle z
+    sym (read-done file requests′ lent′ (file-opens file (length requests′) (length lent′) d′) .0) ∙ ap Bundle z
     in
     let (z′, there′, then′) = read-words file requests′ lent′ sizes e′ in (e′, there′ ∙ sym there, then′ ∙ sym then)

@@ -10,8 +10,8 @@ use Rattle.paging.specs.Services.{leftBy}
 use Rattle.paging.specs.declared.Gate.{Gate}
 use Rattle.paging.specs.declared.Gate.the-variants.{Open, No}
 use Rattle.paging.specs.declared.Refusal.the-variants.{LentTooShort, CountNotAllowed}
+use Rattle.reading.specs.Reading.{planFits, sizeTests}
 use Rattle.bundle.specs.Bytes.{section}
-use Rattle.bundle.specs.Reading.{planFits, sizeTests}
 use Rattle.bundle.specs.declared.WriteAnswer.{WriteAnswer}
 use Rattle.bundle.specs.declared.WriteAnswer.the-variants.{Bytes, Refused}
 

@@ -2,9 +2,10 @@
 -- Assumes nothing.
 use mathlib.Core.List.{List, [], _∷_}
 use Prim.Native.Nat.{ℕ}
-use Rattle.bundle.specs.declared.ReadAnswer.{ReadAnswer}
+use Rattle.reading.specs.declared.ReadAnswer.{ReadAnswer}
 use Rattle.bundle.specs.declared.WriteAnswer.{WriteAnswer}
-use Rattle.bundle.specs.Numbers.{readNumbers, writeNumbers}
+use Rattle.reading.specs.Numbers.{readNumbers}
+use Rattle.bundle.specs.Numbers.{writeNumbers}
 
 -- number, place, both sizes, the requests' count, the plan's count
 abbrev pub readWords : ReadAnswer → List ℕ

@@ -1,7 +1,8 @@
 // Bundle files for callers outside: reading and writing. How an answer is told, and what is asked of a caller, stands in `laying`.
 ghost use mathlib.Core.Path.{_≡_};
 ghost use lib.ListN.{length};
-ghost use Rattle.bundle.specs.Reading.{readOf, requestsLeft, planLeft};
+ghost use Rattle.reading.specs.Reading.{readOf};
+ghost use Rattle.bundle.specs.Reading.{requestsLeft, planLeft};
 ghost use Rattle.bundle.specs.Writing.{writeOf, roomLeft};
 ghost use Rattle.paging.specs.Services.{laid};
 ghost use Rattle.exports_files.specs.Words.{readWords, writeWords};
@@ -18,7 +19,7 @@ pub extern "C" fn hedravos_read(
     ensures plan { λ r. ⌜ now (plan .exit) ≡ planLeft (now (bytes .entry)) (length (now (requests .entry))) (now (plan .entry)) ⌝ }
     ensures answer { λ r. ⌜ now (answer .exit) ≡ laid (readWords (readOf (now (bytes .entry)) (length (now (requests .entry))) (length (now (plan .entry))))) (now (answer .entry)) ⌝ }
 {
-    let told = bundle::read_numbers(bundle::read(bytes, requests, plan));
+    let told = reading::read_numbers(bundle::read(bytes, requests, plan));
     let numbers = [
         told.number,
         told.place,

@@ -8,9 +8,9 @@ use native.Mathlib.Decide.{decLe}
 use lib.ListN.{length, take}
 use lib.Seq.{take-all}
 use Rattle.paging.specs.Calls.{requestLimit}
-use Rattle.bundle.specs.Reading.{readOf}
-use Rattle.bundle.specs.declared.ReadAnswer.the-variants.{Refused}
-use Rattle.bundle.proofs.Longer.{longRefusal, long-refused, reading-the-front}
+use Rattle.reading.specs.Reading.{readOf}
+use Rattle.reading.specs.declared.ReadAnswer.the-variants.{Refused}
+use Rattle.reading.proofs.Longer.{longRefusal, long-refused, reading-the-front}
 use Rattle.reporting.specs.Report.{reportOf}
 use Rattle.reporting.proofs.Reading.{text-refused}
 

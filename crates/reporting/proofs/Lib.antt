@@ -1,5 +1,5 @@
--- What the proofs of the report's text use, that no report is longer than 256 bytes, and that the front of a file gives the report of the whole.
-pub mod Putting
+-- What the proofs of the report's text use, and its laws: no report is longer than 256 bytes, the front of a file gives the report of the whole, and the numbers are counts.
 pub mod Reading
 pub mod Short
 pub mod Front
+pub mod Counts

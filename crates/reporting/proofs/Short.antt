@@ -16,11 +16,13 @@ use Rattle.paging.specs.declared.Answer.the-variants.{Faults, Refused}
 use Rattle.calls.specs.Answers.{answerNumbers}
 use Rattle.counts.specs.Counts.{countOf}
 use Rattle.judge.specs.Check.{checkOf}
-use Rattle.bundle.specs.Reading.{readOf, fileRequests, filePlan}
-use Rattle.bundle.specs.declared.Sizes.{Sizes}
-use Rattle.bundle.specs.declared.ReadAnswer.{ReadAnswer}
-use Rattle.bundle.specs.declared.ReadAnswer.the-variants as read
-use Rattle.reporting.specs.Report.{digitAt, decimal, requestsWord, claimWord, noneWord, pair, refusedLine, line, claimed, claimLine, rulesText, linesOf, textBy, reportOf}
+use Rattle.reading.specs.Reading.{readOf, fileRequests, filePlan}
+use Rattle.reading.specs.declared.Sizes.{Sizes}
+use Rattle.reading.specs.declared.ReadAnswer.{ReadAnswer}
+use Rattle.reading.specs.declared.ReadAnswer.the-variants as read
+use Rattle.text.specs.Decimal.{digitAt, decimal}
+use Rattle.text.specs.Lines.{pair, refusedLine, line}
+use Rattle.reporting.specs.Report.{requestsWord, claimWord, noneWord, claimed, claimLine, rulesText, linesOf, textBy, reportOf}
 
 abbrev faultsIn : ℕ → ℕ → List ℕ → ℕ
 faultsIn rule n trace = answerNumbers (countOf rule n trace) .faults
@@ -62,16 +64,17 @@ line-short name frames faults = omega (arith, length-append name (pair frames (3
 refused-short : (refusal : Refusal) → length (refusedLine refusal) ≤ 33
 refused-short refusal = omega (arith, pair-short (table refusal .number) (32 ∷ 97 ∷ 116 ∷ 32 ∷ []) (table refusal .place))
 
-claimed-short : (m : ℕ) (answer : Answer) → length (claimed m answer) ≤ 39
-claimed-short m (Faults faults) = omega (arith, line-short claimWord m faults)
-claimed-short m (Refused refusal) = omega (arith, refused-short refusal)
+claimed-short : (m : ℕ) (answer : Answer) → length (claimed m answer) ≤ 33
+claimed-short m (Faults faults) = omega (arith, pair-short m (32 ∷ []) faults)
+claimed-short m (Refused refusal) = refused-short refusal
 
 claim-short : (sizes : Sizes) (trace plan : List ℕ) → length (claimLine sizes trace plan) ≤ 39
 claim-short sizes trace plan = go (eqb (sizes .planned) 0)
   where
-    go : (b : Bool) → length (pick b (claimWord ++ noneWord) (claimed (sizes .m) (checkOf (sizes .m) trace plan))) ≤ 39
+    go : (b : Bool) → length (claimWord ++ pick b noneWord (claimed (sizes .m) (checkOf (sizes .m) trace plan))) ≤ 39
     go true = omega arith
-    go false = claimed-short (sizes .m) (checkOf (sizes .m) trace plan)
+    go false =
+        omega (arith, length-append claimWord (claimed (sizes .m) (checkOf (sizes .m) trace plan)), claimed-short (sizes .m) (checkOf (sizes .m) trace plan))
 
 rules-short : (sizes : Sizes) (trace : List ℕ) → length (rulesText sizes trace) ≤ 132
 rules-short sizes trace =

@@ -9,8 +9,10 @@ use Rattle.paging.specs.Rules.{mark}
 use Rattle.counts.specs.Counts.{countOf}
 use Rattle.judge.specs.Check.{checkOf}
 use Rattle.bundle.specs.Bytes.{section}
-use Rattle.bundle.specs.Reading.{readOf, fileRequests, filePlan}
-use Rattle.reporting.specs.Report.{digitAt, decimal, requestsWord, lruWord, fifoWord, minWord, lru2Word, claimWord, noneWord, refusedWord, atWord, reportOf}
+use Rattle.reading.specs.Reading.{readOf, fileRequests, filePlan}
+use Rattle.text.specs.Decimal.{digitAt, decimal}
+use Rattle.text.specs.Lines.{refusedWord, atWord}
+use Rattle.reporting.specs.Report.{requestsWord, lruWord, fifoWord, minWord, lru2Word, claimWord, noneWord, reportOf}
 
 -- n 3, m 2, requests 5 6 7 5 8 6 5 7, and a plan
 abbrev bundle : List ℕ → List ℕ

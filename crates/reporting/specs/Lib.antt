@@ -1,4 +1,3 @@
 -- What the contracts of the report's text cite, and worked cases of it.
-pub mod Putting
 pub mod Report
 pub mod Cases

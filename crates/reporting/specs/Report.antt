@@ -1,43 +1,23 @@
 -- Document 01, the report program: the text that it prints for a file, as bytes.
 --
--- In order: decimal numbers; the words of the report; its lines; the report.
+-- In order: the words of the report; its lines; the report.
 -- Assumes nothing.
 use mathlib.Core.List.{List, [], _∷_, _++_}
-use Prim.Native.Nat.{ℕ, _+_, _/_, _%_}
-use lib.Dec.{eqb, ltb}
+use Prim.Native.Nat.{ℕ}
+use lib.Dec.{eqb}
 use Rattle.paging.specs.Lists.{pick}
 use Rattle.paging.specs.Calls.{requestLimit}
-use Rattle.paging.specs.Refusals.{table}
-use Rattle.paging.specs.declared.Refusal.{Refusal}
 use Rattle.paging.specs.declared.Answer.{Answer}
 use Rattle.paging.specs.declared.Answer.the-variants.{Faults, Refused}
 use Rattle.calls.specs.Answers.{answerNumbers}
 use Rattle.counts.specs.Counts.{countOf}
 use Rattle.judge.specs.Check.{checkOf}
-use Rattle.bundle.specs.Reading.{readOf, fileRequests, filePlan}
-use Rattle.bundle.specs.declared.Sizes.{Sizes}
-use Rattle.bundle.specs.declared.ReadAnswer.{ReadAnswer}
-use Rattle.bundle.specs.declared.ReadAnswer.the-variants as read
-
--- ---- decimal numbers: no leading zeros, and 0 is one digit
-
--- the digit for a power of ten; none, where the number is below that power
-unfoldable pub digitAt : ℕ → ℕ → List ℕ
-digitAt x power = pick (ltb x power) [] ((48 + x / power % 10) ∷ [])
-
--- a number below 2^32
-unfoldable pub decimal : ℕ → List ℕ
-decimal x =
-    digitAt x 1000000000
-    ++ digitAt x 100000000
-    ++ digitAt x 10000000
-    ++ digitAt x 1000000
-    ++ digitAt x 100000
-    ++ digitAt x 10000
-    ++ digitAt x 1000
-    ++ digitAt x 100
-    ++ digitAt x 10
-    ++ ((48 + x % 10) ∷ [])
+use Rattle.reading.specs.Reading.{readOf, fileRequests, filePlan}
+use Rattle.reading.specs.declared.Sizes.{Sizes}
+use Rattle.reading.specs.declared.ReadAnswer.{ReadAnswer}
+use Rattle.reading.specs.declared.ReadAnswer.the-variants as read
+use Rattle.text.specs.Decimal.{decimal}
+use Rattle.text.specs.Lines.{pair, refusedLine, line}
 
 -- ---- the words of the report, each with the space or line feed behind it
 
@@ -69,27 +49,7 @@ claimWord = 99 ∷ 108 ∷ 97 ∷ 105 ∷ 109 ∷ 32 ∷ []
 abbrev pub noneWord : List ℕ
 noneWord = 110 ∷ 111 ∷ 110 ∷ 101 ∷ 10 ∷ []
 
--- "refused "
-abbrev pub refusedWord : List ℕ
-refusedWord = 114 ∷ 101 ∷ 102 ∷ 117 ∷ 115 ∷ 101 ∷ 100 ∷ 32 ∷ []
-
--- " at "
-abbrev pub atWord : List ℕ
-atWord = 32 ∷ 97 ∷ 116 ∷ 32 ∷ []
-
 -- ---- the lines
-
--- two numbers with something between, and a line feed
-abbrev pub pair : ℕ → List ℕ → ℕ → List ℕ
-pair x between y = decimal x ++ between ++ decimal y ++ 10 ∷ []
-
--- a refusal's number and place
-abbrev pub refusedLine : Refusal → List ℕ
-refusedLine refusal = refusedWord ++ pair (table refusal .number) atWord (table refusal .place)
-
--- a name, a number of frames, the faults
-abbrev pub line : List ℕ → ℕ → ℕ → List ℕ
-line name frames faults = name ++ pair frames (32 ∷ []) faults
 
 -- a rule's faults, by its number
 abbrev pub ruleLine : List ℕ → ℕ → ℕ → List ℕ → List ℕ
@@ -97,12 +57,12 @@ ruleLine name rule frames trace = line name frames (answerNumbers (countOf rule 
 
 -- what Check answers to the plan
 abbrev pub claimed : ℕ → Answer → List ℕ
-claimed m (Faults faults) = line claimWord m faults
-claimed m (Refused refusal) = claimWord ++ refusedLine refusal
+claimed m (Faults faults) = pair m (32 ∷ []) faults
+claimed m (Refused refusal) = refusedLine refusal
 
 -- the plan's line; a plan of no words is one that didn't come
 abbrev pub claimLine : Sizes → List ℕ → List ℕ → List ℕ
-claimLine sizes trace plan = pick (eqb (sizes .planned) 0) (claimWord ++ noneWord) (claimed (sizes .m) (checkOf (sizes .m) trace plan))
+claimLine sizes trace plan = claimWord ++ pick (eqb (sizes .planned) 0) noneWord (claimed (sizes .m) (checkOf (sizes .m) trace plan))
 
 -- ---- the report
 

@@ -35,7 +35,7 @@ fn show_list(words: [u32; 9]) {
 fn read(name: &[u8], file: &[u8]) {
     let mut requests = [1u32; 9];
     let mut plan = [1u32; 9];
-    let told = bundle::read_numbers(bundle::read(file, &mut requests, &mut plan));
+    let told = reading::read_numbers(bundle::read(file, &mut requests, &mut plan));
     io::write_all(1, name);
     show(told.number);
     show(told.place);
@@ -139,7 +139,7 @@ fn writings() {
 fn read_largest(file: &[u8]) {
     let mut requests = [0u32; 8000];
     let mut plan = [0u32; 8000];
-    let told = bundle::read_numbers(bundle::read(file, &mut requests, &mut plan));
+    let told = reading::read_numbers(bundle::read(file, &mut requests, &mut plan));
     io::write_all(1, b"largest");
     show(told.number);
     show(told.place);

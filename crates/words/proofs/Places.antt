@@ -80,6 +80,11 @@ held-whole file at count room f r =
     let lent : lesserOf count room ≡ count = lesser-first count room r in
     rw lent (lesser-first count (bytesFrom file at / 4) q)
 
+-- and lays all of it over the lent words
+pub over-whole : (file : List ℕ) (at count : ℕ) (out : List ℕ) → at + 4 * count ≤ length file → count ≤ length out
+    → sectionOver file at count out ≡ wordsAt file at count ++ drop count out
+over-whole file at count out f r = ap (λ (k : ℕ). wordsAt file at k ++ drop k out) (held-whole file at count (length out) f r)
+
 -- past the end there are no words, and none at the end
 pub held-after : (file : List ℕ) (at count room : ℕ) → wordsHeld file (placeAfter file 0 at) count room ≡ wordsHeld file at count room
 held-after file at count room = go (ltb (length file) at) refl

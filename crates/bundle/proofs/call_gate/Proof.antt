@@ -8,7 +8,7 @@ use Rattle.paging.specs.Lists.{pick, not}
 use Rattle.paging.specs.Calls.{gate, traceTests}
 use Rattle.paging.specs.declared.Gate.the-variants.{Open, No}
 use Rattle.paging.specs.declared.Refusal.the-variants.{CountNotAllowed}
-use Rattle.bundle.specs.Reading.{sizeTests}
+use Rattle.reading.specs.Reading.{sizeTests}
 use Rattle.bundle.proofs.Chains.{call-sizes-stop, call-trace-stops, call-goes-on}
 use Rattle.bundle.proofs.call_gate.Statement.{statement}
 use Rattle.bundle.proofs.call_gate.Tie as tie

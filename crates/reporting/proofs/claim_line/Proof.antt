@@ -4,7 +4,7 @@ use borrow.Author.Needs.{needs}
 use mathlib.Core.Path.{ap}
 use borrow.Author.Tests.{eq-eqb, ne-eqb}
 use Rattle.reporting.specs.Report.{claimed}
-use Rattle.reporting.proofs.Putting.{put-then, put-same}
+use Rattle.text.proofs.Putting.{put-then, put-same}
 use Rattle.reporting.proofs.claim_line.Statement.{statement}
 use Rattle.reporting.proofs.claim_line.Tie as tie
 
@@ -26,8 +26,8 @@ same-length c = search needs
 returns : tie.Need-returns
 returns c =
     let n = c .before .before in
-    let w = n .before .before .before .before .before in
-    let t = w .before .before .before in
+    let t = n .before .before .before in
+    let w = t .before .before .before .before in
     rw (eq-eqb _ _ (t .if1 .taken)) (put-then (w .word .ensures) (n .word2 .ensures))
 
 check-requires : tie.Need-check-requires
@@ -44,8 +44,9 @@ returns-2 c =
     let l = c .before .before in
     let k = l .before in
     let e = k .before .before in
-    let s = e .before .before .before .before .before in
-    rw (ne-eqb _ _ (e .if1 .left)) (put-same (ap (claimed (s .args .sizes .m)) (k .check .ensures .0)) (l .claimed .ensures))
+    let w = e .before .before .before .before in
+    let s = w .before .before .before .before .before .before in
+    rw (ne-eqb _ _ (e .if1 .left)) (put-then (w .word .ensures) (put-same (ap (claimed (s .args .sizes .m)) (k .check .ensures .0)) (l .claimed .ensures)))
 
 pub claim-line-spec : {M : Type 1} → statement M
 claim-line-spec =

@@ -1,7 +1,7 @@
 -- `reporting::lines` meets its contract.
 -- Assumes nothing.
 use borrow.Author.Needs.{needs}
-use Rattle.reporting.proofs.Putting.{put-then}
+use Rattle.text.proofs.Putting.{put-then}
 use Rattle.reporting.proofs.lines.Statement.{statement}
 use Rattle.reporting.proofs.lines.Tie as tie
 

@@ -7,10 +7,10 @@ use Prim.Native.Nat.{ℕ, _≤_}
 use lib.ListN.{length, take, replicate}
 use lib.Seq.{length-take-le}
 use Rattle.paging.specs.Calls.{requestLimit}
-use Rattle.bundle.specs.Reading.{readOf}
-use Rattle.bundle.specs.declared.ReadAnswer.the-variants.{Bundle}
+use Rattle.reading.specs.Reading.{readOf}
+use Rattle.reading.specs.declared.ReadAnswer.the-variants.{Bundle}
 use Rattle.reporting.specs.Report.{linesOf}
-use Rattle.reporting.proofs.Putting.{put-same, put-whole}
+use Rattle.text.proofs.Putting.{put-same, put-whole}
 use Rattle.reporting.proofs.Reading.{text-refused, both-fit, text-lines}
 use Rattle.reporting.proofs.report.Statement.{statement}
 use Rattle.reporting.proofs.report.Tie as tie

@@ -4,8 +4,8 @@ use borrow.Author.Needs.{needs}
 use mathlib.Core.Path.{ap, _∙_}
 use Rattle.calls.specs.Answers.{answerNumbers}
 use Rattle.calls.specs.declared.AnswerNumbers.{AnswerNumbers}
-use Rattle.reporting.specs.Report.{line}
-use Rattle.reporting.proofs.Putting.{put-same}
+use Rattle.text.specs.Lines.{line}
+use Rattle.text.proofs.Putting.{put-same}
 use Rattle.reporting.proofs.rule_line.Statement.{statement}
 use Rattle.reporting.proofs.rule_line.Tie as tie
 

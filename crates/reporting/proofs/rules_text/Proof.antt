@@ -1,7 +1,7 @@
 -- `reporting::rules_text` meets its contract.
 -- Assumes nothing.
 use borrow.Author.Needs.{needs}
-use Rattle.reporting.proofs.Putting.{put-then}
+use Rattle.text.proofs.Putting.{put-then}
 use Rattle.reporting.proofs.rules_text.Statement.{statement}
 use Rattle.reporting.proofs.rules_text.Tie as tie
 

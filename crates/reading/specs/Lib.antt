@@ -1,0 +1,3 @@
+-- What the contracts of reading a bundle file cite.
+pub mod Reading
+pub mod Numbers

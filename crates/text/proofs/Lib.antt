@@ -1,0 +1,2 @@
+-- What the proofs of putting text into a room use.
+pub mod Putting
