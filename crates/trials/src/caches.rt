@@ -3,45 +3,43 @@
 ghost use mathlib.Core.Path.{_≡_};
 ghost use Rattle.cache.specs.Feed.{fed};
 use crate::script::Line;
+use crate::script::part;
 use crate::show;
 use cache::Cache;
 use cache::Reply;
 use paging::Gate;
 use paging::Page;
-use paging::Refusal;
 
-fn show_refusal(refusal: Refusal) {
+fn show_refusal(number: u32, place: u32) {
     io::write_all(1, b" refused");
-    show::number(refusal.number());
+    show::number(number);
     io::write_all(1, b" at");
-    show::number(refusal.place());
+    show::number(place);
 }
 
-fn show_reply(reply: Reply) {
-    match reply {
-        Reply::Hit => {
-            io::write_all(1, b" hit");
-        }
-        Reply::Loaded => {
-            io::write_all(1, b" loaded");
-        }
-        Reply::Dropped(page) => {
-            io::write_all(1, b" dropped");
-            show::number(page.0);
-        }
-        Reply::Refused(refusal) => {
-            show_refusal(refusal);
-        }
-    }
-}
-
-// Four numbers tell replies apart.
+// Four numbers tell replies apart: the case, a page, and a refusal's number and place.
 fn told(reply: Reply) -> [u32; 4] {
     match reply {
         Reply::Hit => [1, 0, 0, 0],
         Reply::Loaded => [2, 0, 0, 0],
         Reply::Dropped(page) => [3, page.0, 0, 0],
         Reply::Refused(refusal) => [4, 0, refusal.number(), refusal.place()],
+    }
+}
+
+fn show_reply(told: [u32; 4]) {
+    if told[0] == 1 {
+        io::write_all(1, b" hit");
+    }
+    if told[0] == 2 {
+        io::write_all(1, b" loaded");
+    }
+    if told[0] == 3 {
+        io::write_all(1, b" dropped");
+        show::number(told[1]);
+    }
+    if told[0] == 4 {
+        show_refusal(told[2], told[3]);
     }
 }
 
@@ -56,49 +54,53 @@ fn same(a: &[u32], b: &[u32]) -> bool {
     same
 }
 
-fn same_reply(a: Reply, b: Reply) -> bool {
-    let s = told(a);
-    let t = told(b);
-    same(&s, &t)
+fn same_records(a: &[u32; 1028], b: &[u32; 1028]) -> bool {
+    same(a, b)
 }
 
-fn same_record(c: Cache, record: &[u32]) -> bool {
-    let mut words = [0u32; 1028];
-    records::record_into(c, &mut words);
-    same(&words, record)
-}
-
-fn show_agreed(agreed: bool) {
-    if agreed {
-        io::write_all(1, b", both agree");
-    } else {
-        io::write_all(1, b", NOT AGREED");
+fn show_agreed(replies: bool, next: bool) {
+    if replies {
+        if next {
+            io::write_all(1, b", both agree");
+            return;
+        }
     }
+    io::write_all(1, b", NOT AGREED");
+}
+
+fn by_value(record: &[u32; 1028], page: u32, next: &mut [u32; 1028]) -> [u32; 4] {
+    let a = records::record_of(record).feed(Page(page));
+    records::record_into(a.next, next);
+    let outcome = a.outcome;
+    told(outcome)
+}
+
+fn in_place(record: &[u32; 1028], page: u32, next: &mut [u32; 1028]) -> [u32; 4] {
+    let a = front::feed_through(records::record_of(record), Page(page));
+    records::record_into(a.next, next);
+    let outcome = a.outcome;
+    told(outcome)
 }
 
 // One request both ways.
-fn feed_both(c: Cache, page: u32, record: &mut [u32; 1028]) {
-    let a = c.feed(Page(page));
-    let b = front::feed_through(c, Page(page));
-    let by_value = a.outcome;
-    let in_place = b.outcome;
-    records::record_into(b.next, record);
-    show_reply(in_place);
-    if same_record(c, record) {
+fn feed_both(was: &[u32; 1028], page: u32, record: &mut [u32; 1028]) {
+    let mut other = [0u32; 1028];
+    let a = by_value(was, page, &mut other);
+    let b = in_place(was, page, record);
+    show_reply(b);
+    if same_records(was, record) {
         io::write_all(1, b", record as it was");
     }
-    show_agreed(same_reply(by_value, in_place) && same_record(a.next, record));
+    show_agreed(same(&a, &b), same_records(&other, record));
 }
 
-// record ? page, or ? page for the record of the line before
-pub fn feed(line: Line, words: &[u32], record: &mut [u32; 1028]) {
-    if 1028 < words.len() {
-        if line.first == 0 {
-            feed_both(records::record_of(record), words[1028], record);
-        } else {
-            feed_both(records::record_of(words), words[1028], record);
-        }
+// page, for the record of the line before, or page; record
+pub fn feed(line: Line, words: &[u32; 16500], record: &mut [u32; 1028]) {
+    if line.first != 0 {
+        take(part(words, line.first, 1029), record);
     }
+    let was = *record;
+    feed_both(&was, words[0], record);
 }
 
 // What two requests of a kept record came to.
@@ -124,31 +126,44 @@ fn kept(cache: Cache, first: Page, second: Page) -> Two
     }
 }
 
-// Two requests of a kept record, and both by value.
-fn feed_twice(c: Cache, first: u32, second: u32, record: &mut [u32; 1028]) {
-    let a = c.feed(Page(first));
-    let b = a.next.feed(Page(second));
-    let two = kept(c, Page(first), Page(second));
-    records::record_into(two.next, record);
-    show_reply(two.first);
-    io::write_all(1, b",");
-    show::number(second);
-    show_reply(two.second);
-    show_agreed(
-        same_reply(a.outcome, two.first)
-            && same_reply(b.outcome, two.second)
-            && same_record(b.next, record),
-    );
+// What a kept record's two replies are told by.
+struct Replies {
+    first: [u32; 4],
+    second: [u32; 4],
 }
 
-// ? page page
-pub fn twice(words: &[u32], record: &mut [u32; 1028]) {
-    if 1029 < words.len() {
-        feed_twice(records::record_of(record), words[1028], words[1029], record);
+fn both_told(record: &[u32; 1028], first: u32, second: u32, next: &mut [u32; 1028]) -> Replies {
+    let two = kept(records::record_of(record), Page(first), Page(second));
+    records::record_into(two.next, next);
+    let one = two.first;
+    let other = two.second;
+    Replies {
+        first: told(one),
+        second: told(other),
     }
 }
 
-// A record, for the requests of the lines after
+// page page: two requests of a kept record, and both by value.
+pub fn twice(words: &[u32; 16500], record: &mut [u32; 1028]) {
+    let was = *record;
+    let mut after = [0u32; 1028];
+    let mut other = [0u32; 1028];
+    let a = by_value(&was, words[0], &mut after);
+    let b = by_value(&after, words[1], &mut other);
+    let two = both_told(&was, words[0], words[1], record);
+    let one = two.first;
+    let last = two.second;
+    show_reply(one);
+    io::write_all(1, b",");
+    show::number(words[1]);
+    show_reply(last);
+    show_agreed(
+        same(&a, &one) && same(&b, &last),
+        same_records(&other, record),
+    );
+}
+
+// record, for the requests of the lines after
 pub fn take(words: &[u32], record: &mut [u32; 1028]) {
     records::record_into(records::record_of(words), record);
 }
@@ -159,21 +174,24 @@ fn show_gate(gate: Gate) {
             io::write_all(1, b" taken");
         }
         Gate::No(refusal) => {
-            show_refusal(refusal);
+            show_refusal(refusal.number(), refusal.place());
         }
     }
 }
 
+fn fresh(rule: u32, frames: u32, record: &mut [u32; 1028]) {
+    let f = Cache::fresh(rule, frames);
+    records::record_into(f.cache, record);
+    let gate = f.gate;
+    show_gate(gate);
+}
+
 // rule frames
-pub fn new(words: &[u32]) {
+pub fn new(words: &[u32; 16500], record: &mut [u32; 1028]) {
     let mut blank = [0u32; 1028];
     records::record_into(Cache::blank(), &mut blank);
-    if 2 <= words.len() {
-        let f = Cache::fresh(words[0], words[1]);
-        let gate = f.gate;
-        show_gate(gate);
-        if same_record(f.cache, &blank) {
-            io::write_all(1, b", the blank record");
-        }
+    fresh(words[0], words[1], record);
+    if same_records(&blank, record) {
+        io::write_all(1, b", the blank record");
     }
 }

@@ -8,7 +8,8 @@ mod show;
 use paging::MARK;
 use script::Line;
 
-fn answer(line: Line, words: &[u32; 16500], record: &mut [u32; 1028]) {
+// Count, Write a plan, Judge, Better, and 300 pages in Turns.
+fn of_lists(line: Line, words: &[u32; 16500]) {
     if line.verb == 99 {
         lists::count(line, words);
     }
@@ -24,8 +25,12 @@ fn answer(line: Line, words: &[u32; 16500], record: &mut [u32; 1028]) {
     if line.verb == 116 {
         lists::turns(words);
     }
+}
+
+// New, a Record, Feed, and a record that is Kept.
+fn of_caches(line: Line, words: &[u32; 16500], record: &mut [u32; 1028]) {
     if line.verb == 110 {
-        caches::new(words);
+        caches::new(words, record);
     }
     if line.verb == 114 {
         caches::take(words, record);
@@ -36,7 +41,6 @@ fn answer(line: Line, words: &[u32; 16500], record: &mut [u32; 1028]) {
     if line.verb == 107 {
         caches::twice(words, record);
     }
-    io::write_all(1, b"\n");
 }
 
 fn run(script: &[u8]) {
@@ -47,7 +51,9 @@ fn run(script: &[u8]) {
         let byte = script[i];
         line = script::step(line, byte, &mut words);
         if byte == 10 {
-            answer(line, &words, &mut record);
+            of_lists(line, &words);
+            of_caches(line, &words, &mut record);
+            show::end();
             line = script::begun();
             words = [MARK; 16500];
         }

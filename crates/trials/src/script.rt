@@ -1,4 +1,4 @@
-// Reads a line byte by byte. After the colon the first letter says what is asked. Numbers go one behind the other into words, - is the mark, 7*9 nine sevens, @9 leaves the next number's place at 9, ; cuts the list, and ? cuts it before the words behind a record.
+// Reads a line byte by byte. The name is printed. After its colon the first letter says what is asked; numbers go one behind the other into words, - is the mark, 7*9 is nine sevens, and each of the first three ; is a cut.
 use paging::MARK;
 
 // What has been read of a line: its stage, the letter, the number being read and the one that is to be repeated, the next number's place, and the first three cuts.
@@ -19,9 +19,7 @@ const BETWEEN: u8 = 1;
 
 const NUMBER: u8 = 2;
 
-const PLACE: u8 = 3;
-
-const TIMES: u8 = 4;
+const TIMES: u8 = 3;
 
 pub fn begun() -> Line {
     Line {
@@ -91,9 +89,6 @@ fn ended(line: Line, words: &mut [u32; 16500]) -> Line {
     if line.stage == TIMES {
         next.place = fill(words, line.place, line.value, number);
     }
-    if line.stage == PLACE {
-        next.place = number as usize;
-    }
     next.number = 0;
     next.stage = BETWEEN;
     next
@@ -111,26 +106,19 @@ fn cut(line: Line) -> Line {
     next
 }
 
-// A byte that is no digit.
+// A letter, the mark, or what comes before the times of a number.
 fn sign(line: Line, byte: u8) -> Line {
     let mut next = line;
     if byte == 45 {
         next.number = 4294967295;
         next.stage = NUMBER;
     }
-    if byte == 63 {
-        next.first = line.place;
-        next.place = 1028;
-    }
-    if byte == 64 {
-        next.stage = PLACE;
-    }
     if byte == 42 {
         next.value = word(line.number);
         next.number = 0;
         next.stage = TIMES;
     }
-    if 97 <= byte && line.verb == 0 {
+    if line.verb == 0 {
         next.verb = byte;
     }
     next
@@ -140,14 +128,27 @@ pub fn step(line: Line, byte: u8, words: &mut [u32; 16500]) -> Line {
     if line.stage == NAME {
         return named(line, byte);
     }
-    if 48 <= byte && byte <= 57 {
-        return digit(line, byte);
-    }
     if byte == 59 {
         return cut(ended(line, words));
     }
-    if byte == 10 || byte == 32 || byte == 44 {
+    if byte < 42 {
         return ended(line, words);
     }
+    if 48 <= byte {
+        if byte <= 57 {
+            return digit(line, byte);
+        }
+    }
     sign(line, byte)
+}
+
+// The words from one place to another; none, if there are none.
+pub fn part<'a>(words: &'a [u32; 16500], from: usize, to: usize) -> &'a [u32] {
+    let all = &words[..];
+    if from <= to {
+        if to <= all.len() {
+            return &all[from..to];
+        }
+    }
+    &all[..0]
 }

@@ -1,6 +1,10 @@
 // What lines print: numbers and words.
 use paging::MARK;
 
+pub fn end() {
+    io::write_all(1, b"\n");
+}
+
 pub fn number(number: u32) {
     io::write_all(1, b" ");
     io::print_decimal(1, number as u64);
