@@ -28,19 +28,21 @@ fn told(reply: Reply) -> [u32; 4] {
 }
 
 fn show_reply(told: [u32; 4]) {
-    if told[0] == 1 {
-        io::write_all(1, b" hit");
+    let case = told[0];
+    if case == 4 {
+        show_refusal(told[2], told[3]);
+        return;
     }
-    if told[0] == 2 {
-        io::write_all(1, b" loaded");
-    }
-    if told[0] == 3 {
+    if case == 3 {
         io::write_all(1, b" dropped");
         show::number(told[1]);
+        return;
     }
-    if told[0] == 4 {
-        show_refusal(told[2], told[3]);
+    if case == 2 {
+        io::write_all(1, b" loaded");
+        return;
     }
+    io::write_all(1, b" hit");
 }
 
 // Whether two lists of one length are the same.
@@ -126,13 +128,13 @@ fn kept(cache: Cache, first: Page, second: Page) -> Two
     }
 }
 
-// What a kept record's two replies are told by.
+// The replies to two requests.
 struct Replies {
     first: [u32; 4],
     second: [u32; 4],
 }
 
-fn both_told(record: &[u32; 1028], first: u32, second: u32, next: &mut [u32; 1028]) -> Replies {
+fn both_in_place(record: &[u32; 1028], first: u32, second: u32, next: &mut [u32; 1028]) -> Replies {
     let two = kept(records::record_of(record), Page(first), Page(second));
     records::record_into(two.next, next);
     let one = two.first;
@@ -143,24 +145,40 @@ fn both_told(record: &[u32; 1028], first: u32, second: u32, next: &mut [u32; 102
     }
 }
 
-// page page: two requests of a kept record, and both by value.
-pub fn twice(words: &[u32; 16500], record: &mut [u32; 1028]) {
-    let was = *record;
+fn both_by_value(record: &[u32; 1028], first: u32, second: u32, next: &mut [u32; 1028]) -> Replies {
     let mut after = [0u32; 1028];
-    let mut other = [0u32; 1028];
-    let a = by_value(&was, words[0], &mut after);
-    let b = by_value(&after, words[1], &mut other);
-    let two = both_told(&was, words[0], words[1], record);
+    let one = by_value(record, first, &mut after);
+    Replies {
+        first: one,
+        second: by_value(&after, second, next),
+    }
+}
+
+fn same_replies(a: Replies, b: Replies) -> bool {
+    let one = a.first;
+    let other = b.first;
+    let two = a.second;
+    let last = b.second;
+    same(&one, &other) && same(&two, &last)
+}
+
+fn show_both(two: Replies, page: u32) {
     let one = two.first;
-    let last = two.second;
+    let other = two.second;
     show_reply(one);
     io::write_all(1, b",");
-    show::number(words[1]);
-    show_reply(last);
-    show_agreed(
-        same(&a, &one) && same(&b, &last),
-        same_records(&other, record),
-    );
+    show::number(page);
+    show_reply(other);
+}
+
+// page page: two requests of a kept record, and both by value
+pub fn twice(words: &[u32; 16500], record: &mut [u32; 1028]) {
+    let was = *record;
+    let mut other = [0u32; 1028];
+    let a = both_by_value(&was, words[0], words[1], &mut other);
+    let b = both_in_place(&was, words[0], words[1], record);
+    show_both(b, words[1]);
+    show_agreed(same_replies(a, b), same_records(&other, record));
 }
 
 // record, for the requests of the lines after
