@@ -1,20 +1,21 @@
 -- Laws of Fresh and Feed with the record in lent words.
 --
--- In order: the chains as the code goes through them; words too few for the record that is read; words too few for the one that is written.
+-- In order: the chains as the code goes through them; the order in Feed; words too few for the record that is read; words too few for the one that is written.
 -- Assumes nothing.
 use mathlib.Core.Path.{_≡_, refl, sym, ap, _∙_}
 use mathlib.Core.Bool.{Bool, true, false}
 use mathlib.Core.List.{List}
-use Prim.Native.Nat.{ℕ, _<_}
+use Prim.Native.Nat.{ℕ, _≤_, _<_}
 use lib.Dec.{ltb}
 use lib.ListN.{length, drop}
-use borrow.Author.Tests.{lt-ltb}
+use borrow.Author.Tests.{lt-ltb, le-ltb}
 use Rattle.paging.specs.Lists.{pick, not}
 use Rattle.paging.specs.Calls.{gate}
 use Rattle.paging.specs.declared.Gate.{Gate}
 use Rattle.paging.specs.declared.Gate.the-variants.{Open, No}
 use Rattle.paging.specs.declared.Outcome.{Outcome}
 use Rattle.paging.specs.declared.Outcome.the-variants as outcome
+use Rattle.paging.specs.declared.Refusal.{Refusal}
 use Rattle.paging.specs.declared.Refusal.the-variants.{UnsoundRecord, LentTooShort}
 use Rattle.calls.specs.Chain.{andThen, lentGate}
 use Rattle.calls.proofs.Chain.{gate-append}
@@ -58,6 +59,32 @@ feed-chain words page lent =
     go Open false = refl
     go (No refusal) true = refl
     go (No refusal) false = refl
+
+-- ---- the order in Feed: what it refuses by itself, then 6, else its own reply
+
+module _ (words : List ℕ) (page lent : ℕ) where
+  abbrev alone : Gate
+  alone = gate (feedTests (recordOf words) page)
+
+  -- by the gate of Feed alone
+  told-by : (g : Gate) → alone ≡ g → fedLent words page lent ≡ fedBy (andThen g (gate (roomTests lent))) (recordOf words) page .outcome
+  unfolding fedLent feedLent
+  told-by g e =
+      ap (λ (x : Gate). fedBy x (recordOf words) page .outcome)
+      (gate-append (feedTests (recordOf words) page) (roomTests lent) ∙ ap (λ (x : Gate). andThen x (gate (roomTests lent))) e)
+
+  pub earlier-told : (refusal : Refusal) → alone ≡ No refusal → fedLent words page lent ≡ Refused refusal
+  earlier-told refusal e = told-by (No refusal) e
+
+  pub no-room-refused : alone ≡ Open → lent < recordLength → fedLent words page lent ≡ Refused LentTooShort
+  unfolding roomTests gate
+  no-room-refused e few =
+      told-by Open e ∙ ap (λ (b : Bool). fedBy (pick b (No LentTooShort) Open) (recordOf words) page .outcome) (lt-ltb lent recordLength few)
+
+  pub room-enough : recordLength ≤ lent → fedLent words page lent ≡ fed (recordOf words) page .outcome
+  room-enough enough =
+      sym (feed-chain words page lent)
+      ∙ ap (λ (b : Bool). pick b (unlessRefused (fed (recordOf words) page .outcome)) (fed (recordOf words) page .outcome)) (le-ltb lent recordLength enough)
 
 -- ---- too few words for the record that is read: 5, whatever the page, and the words for the next one stay
 

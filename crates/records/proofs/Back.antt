@@ -58,8 +58,8 @@ module _ (words : List ℕ) (at a b c d : ℕ) where
 
 -- ---- entries put one after the other
 
-pub put-length : (at : ℕ) (e : Entry) (words : List ℕ) → length (putEntry at e words) ≡ length words
-put-length at e words = four-length words at (e .page .0) (e .loaded .0) (e .last .0) (e .earlier .0)
+pub entry-length : (at : ℕ) (e : Entry) (words : List ℕ) → length (putEntry at e words) ≡ length words
+entry-length at e words = four-length words at (e .page .0) (e .loaded .0) (e .last .0) (e .earlier .0)
 
 -- words before the entries and past them are as they were
 pub entries-keep : (es : List Entry) (words : List ℕ) (at i : ℕ) → (i < at) ⊎ (at + 4 * length es ≤ i) → getD (putEntries at es words) i 0 ≡ getD words i 0
@@ -76,7 +76,7 @@ entries-keep (e ∷ es) words at i h = entries-keep es (putEntry at e words) (at
 pub entries-length : (es : List Entry) (words : List ℕ) (at : ℕ) → length (putEntries at es words) ≡ length words
 unfolding putEntries
 entries-length [] words at = refl
-entries-length (e ∷ es) words at = entries-length es (putEntry at e words) (at + 4) ∙ put-length at e words
+entries-length (e ∷ es) words at = entries-length es (putEntry at e words) (at + 4) ∙ entry-length at e words
 
 -- the entry that stands at a place is made of the four words there
 entry-is : (e : Entry) (words : List ℕ) (at : ℕ) → getD words at 0 ≡ e .page .0 → getD words (at + 1) 0 ≡ e .loaded .0 → getD words (at + 2) 0 ≡ e .last .0 → getD words (at + 3) 0 ≡ e .earlier .0
@@ -90,7 +90,7 @@ entries-back (e ∷ es) words at fits =
     let put = four-back words at (e .page .0) (e .loaded .0) (e .last .0) (e .earlier .0) (omega arith) in
     ap₂ (λ (x : Entry) (xs : List Entry). x ∷ xs)
     (entry-is e after at (kept at (omega arith) ∙ put .0) (kept (at + 1) (omega arith) ∙ put .1) (kept (at + 2) (omega arith) ∙ put .2) (kept (at + 3) (omega arith) ∙ put .3))
-    (entries-back es (putEntry at e words) (at + 4) (omega (arith, put-length at e words)))
+    (entries-back es (putEntry at e words) (at + 4) (omega (arith, entry-length at e words)))
   where
     after : List ℕ
     after = putEntries (at + 4) es (putEntry at e words)
