@@ -14,7 +14,7 @@ fn mistake(number: u32) -> bool {
 
 /// Each mistake, the group of cases that must find it, and what it is.
 #[cfg(test)]
-pub const MISTAKES: [(u32, &str, &str); 41] = [
+pub const MISTAKES: [(u32, &str, &str); 43] = [
     (1, "count", "a hit renews a page in FIFO"),
     (2, "plan", "MIN drops the highest of the dead pages"),
     (3, "plan", "the word after the plan is written"),
@@ -96,6 +96,12 @@ pub const MISTAKES: [(u32, &str, &str); 41] = [
         "short room",
         "an accepted Feed without room is not refused",
     ),
+    (
+        42,
+        "short record",
+        "the thin form puts a word into a record of too few",
+    ),
+    (43, "run", "the thin form leaves the record as it came"),
 ];
 
 unsafe fn list<'a, T>(start: *const T, length: usize) -> &'a [T] {
@@ -452,7 +458,15 @@ unsafe extern "C" fn hedravos_feed_own(
     answer: *mut u32,
     answer_len: usize,
 ) {
-    let told = second::feed_own_words(lent(record, record_len), page);
+    let words = lent(record, record_len);
+    let came = words.to_vec();
+    let told = second::feed_own_words(words, page);
+    if mistake(42) && record_len < RECORD_WORDS && record_len > 0 {
+        words[0] ^= 1;
+    }
+    if mistake(43) && told.number == 0 {
+        words.copy_from_slice(&came);
+    }
     let numbers = [told.number, told.place, told.kind, told.page];
     lent(answer, answer_len).copy_from_slice(&numbers);
 }
