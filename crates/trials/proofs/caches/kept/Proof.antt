@@ -41,7 +41,7 @@ use denote.Exit.{yes}
 use Rattle.paging.specs.declared.Page.{Page}
 use Rattle.paging.proofs.Page as P
 use Rattle.paging.proofs.Page.Laws as P′
-use Rattle.cache.specs.Feed.{fed}
+use Rattle.cache.specs.Feed.{fed, replyNumbers}
 use Rattle.cache.specs.declared.Cache.{Cache}
 use Rattle.cache.specs.declared.Reply.{Reply}
 use Rattle.cache.proofs.Cache as T
@@ -96,7 +96,7 @@ module _ {M : Type 1} (𝓤 : URA M) (H : Heap 𝓤) (A : Atoms 𝓤) (W : Given
 
   -- what `feed_own` ensures of the reply s and the last value c of the record b, asked for y
   abbrev Ensured : Cache → Page → Reply → Cache → Type 0
-  Ensured b y s c = (s ≡ fed b (y .0) .outcome) × (c ≡ fed b (y .0) .next)
+  Ensured b y s c = (s ≡ fed b (y .0) .outcome) × (c ≡ fed b (y .0) .next) × (replyNumbers s ≡ replyNumbers (fed b (y .0) .outcome))
 
   module _ (ih : Is T.the-row h (cells h ∷ [])) (ip : Is P.the-row p (asked p ∷ [])) (ig : Is P.the-row g (asked g ∷ [])) where
     exits : (b : Cache) (s t : Reply) (c : Cache) → Ensured h p s b → Ensured b g t c → Is D.the-row (answer s t c) (LL.vals D.the-type D′.the-laws (answer s t c)) → ent 𝓤 (emp 𝓤) (Post (LL.val D.the-type D′.the-laws (answer s t c)))
