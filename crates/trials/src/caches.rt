@@ -17,28 +17,24 @@ fn show_refusal(number: u32, place: u32) {
     show::number(place);
 }
 
-// Four numbers tell replies apart: the case, a page, and a refusal's number and place.
+// Document 01's numbers of a reply: a refusal's number and place, the kind, and the page dropped.
 fn told(reply: Reply) -> [u32; 4] {
-    match reply {
-        Reply::Hit => [1, 0, 0, 0],
-        Reply::Loaded => [2, 0, 0, 0],
-        Reply::Dropped(page) => [3, page.0, 0, 0],
-        Reply::Refused(refusal) => [4, 0, refusal.number(), refusal.place()],
-    }
+    let n = reply.numbers();
+    [n.number, n.place, n.kind, n.page]
 }
 
 fn show_reply(told: [u32; 4]) {
-    let case = told[0];
-    if case == 4 {
-        show_refusal(told[2], told[3]);
+    let kind = told[2];
+    if told[0] != 0 {
+        show_refusal(told[0], told[1]);
         return;
     }
-    if case == 3 {
+    if kind == 2 {
         io::write_all(1, b" dropped");
-        show::number(told[1]);
+        show::number(told[3]);
         return;
     }
-    if case == 2 {
+    if kind == 1 {
         io::write_all(1, b" loaded");
         return;
     }
