@@ -1,5 +1,5 @@
-// Document 01's trials, run: the lines of standard input, each of which has a name, a colon, the first letter of what is asked, and numbers.
-// script.rt reads a line, lists.rt answers what is asked of lists, caches.rt what is asked of a record. The name is printed as it is read, the answer behind it.
+// Document 01's trials, run: each line of standard input has a name, a colon, a word that says what is asked, and numbers. The name is printed as it is read, the answer behind it.
+// script.rt reads a line, lists.rt answers what is asked of lists, caches.rt what is asked of a record.
 mod caches;
 mod lists;
 mod script;
@@ -8,37 +8,37 @@ mod show;
 use paging::MARK;
 use script::Line;
 
-// Count, Write a plan, Judge, Better, and 300 pages in Turns.
+// count, write, judge, better, and turns: 300 pages in turn.
 fn of_lists(line: Line, words: &[u32; 16500]) {
-    if line.verb == 99 {
+    if line.verb == b'c' {
         lists::count(line, words);
     }
-    if line.verb == 119 {
+    if line.verb == b'w' {
         lists::write_plan(line, words);
     }
-    if line.verb == 106 {
+    if line.verb == b'j' {
         lists::judge(line, words);
     }
-    if line.verb == 98 {
+    if line.verb == b'b' {
         lists::better(line, words);
     }
-    if line.verb == 116 {
+    if line.verb == b't' {
         lists::turns(words);
     }
 }
 
-// New, a Record, Feed, and a record that is Kept.
+// new, record, feed, and kept: two requests of a kept record.
 fn of_caches(line: Line, words: &[u32; 16500], record: &mut [u32; 1028]) {
-    if line.verb == 110 {
+    if line.verb == b'n' {
         caches::new(words, record);
     }
-    if line.verb == 114 {
+    if line.verb == b'r' {
         caches::take(words, record);
     }
-    if line.verb == 102 {
+    if line.verb == b'f' {
         caches::feed(line, words, record);
     }
-    if line.verb == 107 {
+    if line.verb == b'k' {
         caches::twice(words, record);
     }
 }
@@ -50,7 +50,7 @@ fn run(script: &[u8]) {
     for i in 0..script.len() {
         let byte = script[i];
         line = script::step(line, byte, &mut words);
-        if byte == 10 {
+        if byte == b'\n' {
             of_lists(line, &words);
             of_caches(line, &words, &mut record);
             show::end();

@@ -37,7 +37,7 @@ pub fn begun() -> Line {
 // A name's byte is printed; the colon ends the name.
 fn named(line: Line, byte: u8) -> Line {
     let mut next = line;
-    if byte == 58 {
+    if byte == b':' {
         next.stage = BETWEEN;
         return next;
     }
@@ -57,8 +57,8 @@ fn digit(line: Line, byte: u8) -> Line {
     let mut next = line;
     let number = line.number;
     if number < 1000000000 {
-        if 48 <= byte {
-            next.number = number * 10 + (byte - 48) as u64;
+        if b'0' <= byte {
+            next.number = number * 10 + (byte - b'0') as u64;
         }
     }
     if line.stage == BETWEEN {
@@ -109,11 +109,11 @@ fn cut(line: Line) -> Line {
 // A letter, the mark, or what comes before the times of a number.
 fn sign(line: Line, byte: u8) -> Line {
     let mut next = line;
-    if byte == 45 {
+    if byte == b'-' {
         next.number = 4294967295;
         next.stage = NUMBER;
     }
-    if byte == 42 {
+    if byte == b'*' {
         next.value = word(line.number);
         next.number = 0;
         next.stage = TIMES;
@@ -128,14 +128,14 @@ pub fn step(line: Line, byte: u8, words: &mut [u32; 16500]) -> Line {
     if line.stage == NAME {
         return named(line, byte);
     }
-    if byte == 59 {
+    if byte == b';' {
         return cut(ended(line, words));
     }
-    if byte < 42 {
+    if byte < b'*' {
         return ended(line, words);
     }
-    if 48 <= byte {
-        if byte <= 57 {
+    if b'0' <= byte {
+        if byte <= b'9' {
             return digit(line, byte);
         }
     }
