@@ -298,8 +298,8 @@ def rows_of(text):
 
 
 def labels_named(crates, cell):
-    """The labels that a cell names, each with the crates it may be of: `a`, and `paging`'s `b`."""
-    for name, owner in re.findall(r"`([^`]+)`('s)?", cell):
+    """The labels that a cell names, each with the crates it may be of: `a`, and `paging`'s `b`. A function, `a::b`, is no label."""
+    for name, owner in re.findall(r"`(\w+)`('s)?", cell):
         if owner:
             crates = [name]
         else:
