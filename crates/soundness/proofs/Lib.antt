@@ -1,5 +1,4 @@
 -- What the proofs of soundness use, and its laws.
-pub mod Long
 pub mod All
 pub mod Seen
 pub mod Words

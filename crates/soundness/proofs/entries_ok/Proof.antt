@@ -13,7 +13,7 @@ use Rattle.paging.specs.Lists.{both}
 use Rattle.paging.specs.Walk.{entryAt}
 use Rattle.soundness.specs.Devices.Scan.{entryOk, Below, unseen, noted}
 use Rattle.soundness.specs.Sound.{met, entryConditions}
-use Rattle.soundness.proofs.Long.{long}
+use Rattle.entries.proofs.Long.{long}
 use Rattle.soundness.proofs.Seen.{scan, scan-on, scan-end, scan-entries, fits-below}
 use Rattle.soundness.proofs.entries_ok.Statement.{statement}
 use Rattle.soundness.proofs.entries_ok.Tie as tie

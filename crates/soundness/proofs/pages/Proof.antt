@@ -6,7 +6,7 @@ use native.Mathlib.Omega.{arith}
 use lib.ListN.{length, take}
 use borrow.Author.Needs.{needs}
 use Rattle.paging.specs.Walk.{pages}
-use Rattle.soundness.proofs.Long.{long}
+use Rattle.entries.proofs.Long.{long}
 use Rattle.soundness.proofs.Words.{copied, copied-all}
 use Rattle.soundness.proofs.pages.Statement.{statement}
 use Rattle.soundness.proofs.pages.Tie as tie

@@ -8,7 +8,7 @@ use borrow.Author.Needs.{needs}
 use Rattle.paging.specs.Lists.{not, both, mem}
 use Rattle.paging.proofs.Frames.{pages-length}
 use Rattle.soundness.specs.Sound.{pairwise, distinctPages}
-use Rattle.soundness.proofs.Long.{long}
+use Rattle.entries.proofs.Long.{long}
 use Rattle.soundness.proofs.Words.{differ, from, differ-on, differ-end, differ-pages}
 use Rattle.soundness.proofs.pages_apart.Statement.{statement}
 use Rattle.soundness.proofs.pages_apart.Tie as tie

@@ -12,7 +12,7 @@ use borrow.Author.Tests.{not-true, not-false}
 use Rattle.paging.specs.Lists.{both}
 use Rattle.paging.specs.Walk.{zeroEntry, entryAt}
 use Rattle.soundness.specs.Sound.{allMarks, blankFrom}
-use Rattle.soundness.proofs.Long.{long}
+use Rattle.entries.proofs.Long.{long}
 use Rattle.soundness.proofs.rest_blank.Statement.{statement}
 use Rattle.soundness.proofs.rest_blank.Tie as tie
 
