@@ -47,11 +47,11 @@ unfolding fed
 fed-open c p s page clock = rw (s, ne-eqb p mark page, ne-eqb (c .clock) requestLimit clock)
 
 -- the entries in use after a request are those of the walk
-pub served-held : (c : Cache) (p : ℕ) → heldEntries (served c p .next) ≡ next (ruleOf c) (c .frames) (c .clock) p noRequests (heldEntries c)
+served-held : (c : Cache) (p : ℕ) → heldEntries (served c p .next) ≡ next (ruleOf c) (c .frames) (c .clock) p noRequests (heldEntries c)
 unfolding served
 served-held c p = take-append-seam (next (ruleOf c) (c .frames) (c .clock) p noRequests (heldEntries c)) _
 
-pub served-size : (c : Cache) (p : ℕ) → length (c .entries) ≡ frameLimit → Sound c → length (served c p .next .entries) ≡ frameLimit
+served-size : (c : Cache) (p : ℕ) → length (c .entries) ≡ frameLimit → Sound c → length (served c p .next .entries) ≡ frameLimit
 unfolding served
 served-size c p size s =
     let es : List Entry = next (ruleOf c) (c .frames) (c .clock) p noRequests (heldEntries c) in
@@ -141,7 +141,7 @@ module _ (c : Cache) (p : ℕ) (ps : List ℕ) (f : Fits c (p ∷ ps)) where
       ∙ sym (ap (λ (a : Served). a .outcome ∷ outcomesFrom (a .next) ps) (served-steps c (f .long-now) (f .sound-now) p))
 
 -- the replies are the outcomes of the walk from its entries
-pub feeding-walks : (ps : List ℕ) (c : Cache) → Fits c ps → feeding c ps ≡ map replyOf (outcomesFrom c ps)
+feeding-walks : (ps : List ℕ) (c : Cache) → Fits c ps → feeding c ps ≡ map replyOf (outcomesFrom c ps)
 unfolding feeding outcomes
 feeding-walks [] c f = refl
 feeding-walks (p ∷ ps) c f =

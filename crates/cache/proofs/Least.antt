@@ -10,7 +10,7 @@ use lib.Dec.{eqb, leb}
 use lib.ListN.{length}
 use borrow.Author.Tests.{eqb-true, le-leb}
 use Rattle.paging.specs.Lists.{pick, both, implies, any, all, indexOf}
-use Rattle.paging.specs.Rules.{noRequests, once, lruDrops, fifoDrops, lru2Drops, drops, chosen, ruleNumbered, named}
+use Rattle.paging.specs.Rules.{noRequests, once, lru2Drops, drops, chosen, ruleNumbered, named}
 use Rattle.paging.specs.Walk.{zeroEntry, entryAt}
 use Rattle.paging.specs.Calls.{requestLimit}
 use Rattle.paging.specs.declared.Entry.{Entry}
@@ -23,7 +23,7 @@ use Rattle.soundness.proofs.Orderly.{chosen-is}
 
 -- ---- the rules that can be fed
 
-pub feed-cases : (rule : ℕ) → feedable rule ≡ true → (rule ≡ 1) ⊎ (rule ≡ 2) ⊎ (rule ≡ 4)
+feed-cases : (rule : ℕ) → feedable rule ≡ true → (rule ≡ 1) ⊎ (rule ≡ 2) ⊎ (rule ≡ 4)
 feed-cases rule = go (eqb rule 1) (eqb rule 2) refl refl
   where
     go : (a b : Bool) → eqb rule 1 ≡ a → eqb rule 2 ≡ b → pick a true (pick b true (eqb rule 4)) ≡ true → (rule ≡ 1) ⊎ (rule ≡ 2) ⊎ (rule ≡ 4)

@@ -107,7 +107,7 @@ module _ (c : Cache) (size : length (c .entries) ≡ frameLimit) (s : Sound c) (
       (ap (λ (j : ℕ). set (padded es) j x) (sym l) ∙ padded-snoc es x (omega (arith, s .frames-most)))))
 
   -- the frame that the code finds by the least key
-  pub least-drops : 0 < heldOf c → leastFrame (c .rule) (heldEntries c) ≡ chosen (ruleOf c) noRequests (heldEntries c)
+  least-drops : 0 < heldOf c → leastFrame (c .rule) (heldEntries c) ≡ chosen (ruleOf c) noRequests (heldEntries c)
   least-drops h =
       least-chosen (c .clock) (c .rule) (heldEntries c) (s .orderly) (s .clock-most) (s .feeds) (omega (arith, held-length c size s))
 

@@ -10,7 +10,7 @@ use lib.Dec.{eqb, ltb, leb}
 use lib.ListN.{length, take}
 use lib.Seq.{length-take-le, getD-take, take-all}
 use borrow.Author.Tests.{eqb-true, eq-eqb, le-leb, leb-true, ltb-true, ltb-false}
-use Rattle.paging.specs.Lists.{pick, all, indexOf}
+use Rattle.paging.specs.Lists.{pick}
 use Rattle.paging.specs.Walk.{holds, frameOf, zeroEntry, entryAt}
 use Rattle.paging.specs.Calls.{frameLimit}
 use Rattle.paging.specs.declared.Entry.{Entry}

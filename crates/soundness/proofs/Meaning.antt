@@ -8,7 +8,7 @@ use Prim.Native.Nat.{ℕ, _≤_, _<_}
 use native.Mathlib.Omega.{arith}
 use native.Mathlib.Decide.{decLt, ℕ-discrete}
 use lib.Dec.{eqb, ltb, leb}
-use lib.ListN.{length, getD, take, drop}
+use lib.ListN.{length, getD, take}
 use borrow.Author.Tests.{ltb-true, ltb-false, leb-true, eqb-true, eqb-false, lt-ltb, le-ltb, le-leb, eq-eqb, ne-eqb}
 use Rattle.paging.specs.Lists.{pick, not, both, all, mem}
 use Rattle.paging.specs.Rules.{mark}
@@ -19,7 +19,7 @@ use Rattle.paging.proofs.Lists.{false≢true, both-first, both-second, both-tru
 use Rattle.paging.specs.Meanings.{In, Apart}
 use Rattle.paging.proofs.Held.{in-mem, not-in}
 use Rattle.paging.proofs.Frames.{pages-length, pages-at}
-use Rattle.soundness.specs.Sound.{pairwise, isPage, inOrder, earlierFits, pagesDiffer, moments, momentsDiffer, distinctPages, blankFrom, conditions, soundParts, InTime, Orderly, SoundParts}
+use Rattle.soundness.specs.Sound.{pairwise, isPage, inOrder, earlierFits, pagesDiffer, moments, momentsDiffer, conditions, soundParts, InTime, SoundParts}
 use Rattle.soundness.proofs.Pairs.{pairs-at, at-pairs}
 
 -- ---- each condition

@@ -13,28 +13,28 @@ use lib.ListN.{length, getD}
 use borrow.Author.Tests.{leb-true, eqb-false}
 use Rattle.paging.specs.Lists.{pick, both, implies, any, all}
 use Rattle.paging.specs.Rules.{mark, Sees, once, lruDrops, fifoDrops, lru2Drops, drops, chosen}
-use Rattle.paging.specs.Walk.{zeroEntry, entryAt, pages, loadedAt, renewed, next}
+use Rattle.paging.specs.Walk.{zeroEntry, entryAt, loadedAt, renewed, next}
 use Rattle.paging.specs.declared.Entry.{Entry}
 use Rattle.paging.specs.declared.Rule.{Rule}
 use Rattle.paging.specs.declared.Rule.the-variants.{Lru, Fifo, Min, Lru2}
 use Rattle.paging.proofs.Lists.{true≢false, bool-cases, both-first, both-second, implied, all-at, none-at, index-is}
-use Rattle.paging.specs.Meanings.{In, Apart}
+use Rattle.paging.specs.Meanings.{In}
 use Rattle.paging.proofs.Frames.{pages-length, pages-at, Became, next-entry, next-apart}
 use Rattle.soundness.specs.Sound.{moments, InTime, Orderly}
 
 -- ---- the moments of an entry
 
-pub at-loaded : (e : Entry) → In (e .loaded .0) (moments e)
+at-loaded : (e : Entry) → In (e .loaded .0) (moments e)
 at-loaded e = (0, omega arith, refl)
 
-pub at-last : (e : Entry) → In (e .last .0) (moments e)
+at-last : (e : Entry) → In (e .last .0) (moments e)
 at-last e = (1, omega arith, refl)
 
-pub at-earlier : (e : Entry) → once e ≡ false → In (e .earlier .0) (moments e)
+at-earlier : (e : Entry) → once e ≡ false → In (e .earlier .0) (moments e)
 at-earlier e o =
     subst (λ (b : Bool). In (e .earlier .0) (e .loaded .0 ∷ e .last .0 ∷ pick b [] (e .earlier .0 ∷ []))) (sym o) (2, omega arith, refl)
 
-pub moment-cases : (e : Entry) (m : ℕ) → In m (moments e) → (m ≡ e .loaded .0) ⊎ (m ≡ e .last .0) ⊎ ((once e ≡ false) × (m ≡ e .earlier .0))
+moment-cases : (e : Entry) (m : ℕ) → In m (moments e) → (m ≡ e .loaded .0) ⊎ (m ≡ e .last .0) ⊎ ((once e ≡ false) × (m ≡ e .earlier .0))
 moment-cases e m = go (once e) refl
   where
     third : (o : once e ≡ false) (i : ℕ) → i < 3 → getD (e .loaded .0 ∷ e .last .0 ∷ e .earlier .0 ∷ []) i 0 ≡ m
@@ -56,7 +56,7 @@ moment-cases e m = go (once e) refl
     go false q (i, h, x) = third q i h x
 
 -- all moments of an entry are below the clock
-pub moment-below : (clock : ℕ) (e : Entry) (m : ℕ) → InTime clock e → In m (moments e) → m < clock
+moment-below : (clock : ℕ) (e : Entry) (m : ℕ) → InTime clock e → In m (moments e) → m < clock
 moment-below clock e m w a = go (moment-cases e m a)
   where
     go : (m ≡ e .loaded .0) ⊎ (m ≡ e .last .0) ⊎ ((once e ≡ false) × (m ≡ e .earlier .0)) → m < clock
