@@ -19,7 +19,7 @@ use Rattle.reading.specs.declared.Sizes.{Sizes}
 use Rattle.reading.specs.declared.ReadAnswer.the-variants.{Bundle}
 use Rattle.reading.proofs.Chains.{inside, fits-either, either-fits, open-file, file-opens, read-open, bundle-open}
 use Rattle.bundle.specs.Writing.{fileOf, callTests}
-use Rattle.bundle.specs.Accepted.{Below, ValuesInOrder, AcceptedFile}
+use Rattle.bundle.specs.Accepted.{AllBelow, ValuesInOrder, AcceptedFile}
 use Rattle.bundle.proofs.Chains.{call-trace, call-goes-on}
 use Rattle.bundle.proofs.Back.{words-small}
 use Rattle.bundle.proofs.Laws.{outside-m, m-below, plan-fits, written-accepted, written-sizes, again-open, same-bytes}
@@ -51,7 +51,7 @@ module _ (n m : ℕ) (trace plan : List ℕ) where
           sym (call-goes-on n m trace (length plan) (sizes-open v) t) ∙ ap (λ (b : Bool). pick (not b) (No (CountNotAllowed 0)) Open) f
 
 -- A FILE IS ACCEPTED, with these sizes, exactly when its bytes are the file of values in order and both lists have room
-pub accepted-file : (file : List ℕ) (a b : ℕ) (sizes : Sizes) → Below 256 file → (readOf file a b ≡ Bundle sizes) ↔ AcceptedFile file a b sizes
+pub accepted-file : (file : List ℕ) (a b : ℕ) (sizes : Sizes) → AllBelow 256 file → (readOf file a b ≡ Bundle sizes) ↔ AcceptedFile file a b sizes
 unfolding fileRequests filePlan
 accepted-file file a b sizes s = (there, back)
   where

@@ -9,7 +9,7 @@ use lib.Seq.{getD-append-add}
 use Rattle.words.specs.Bytes.{wordAt, wordsAt}
 use Rattle.bundle.specs.Bytes.{bytesOf, bytesIn, section}
 use Rattle.bundle.specs.Writing.{fileOf}
-use Rattle.bundle.specs.Accepted.{Below}
+use Rattle.bundle.specs.Accepted.{AllBelow}
 
 -- ---- behind other bytes
 
@@ -61,7 +61,7 @@ pub word-back : (w : ℕ) (rest : List ℕ) → w < 4294967296 → wordAt (bytes
 unfolding wordAt bytesOf
 word-back w rest h = four-bytes w h
 
-pub words-back : (words rest : List ℕ) → Below 4294967296 words → wordsAt (bytesIn words ++ rest) 0 (length words) ≡ words
+pub words-back : (words rest : List ℕ) → AllBelow 4294967296 words → wordsAt (bytesIn words ++ rest) 0 (length words) ≡ words
 unfolding wordsAt bytesIn
 words-back [] rest b = refl
 words-back (w ∷ words) rest b =
@@ -96,7 +96,7 @@ bytes-again a b c d ha hb hc hd =
     (ap (λ (k : ℕ). k % 256) (div-three (a + 256 * x) ∙ ap (λ (k : ℕ). k / 256 / 256) (high a x ha) ∙ ap (λ (k : ℕ). k / 256) (high b y hb) ∙ high c d hc)
     ∙ small-mod d hd))))
 
-pub bytes-back : (count : ℕ) (file : List ℕ) → Below 256 file → length file ≡ 4 * count → bytesIn (wordsAt file 0 count) ≡ file
+pub bytes-back : (count : ℕ) (file : List ℕ) → AllBelow 256 file → length file ≡ 4 * count → bytesIn (wordsAt file 0 count) ≡ file
 unfolding bytesIn wordsAt
 bytes-back zero [] s e = refl
 bytes-back zero (a ∷ file) s e = absurd (omega arith)
@@ -111,17 +111,17 @@ bytes-back (suc count) (a ∷ b ∷ c ∷ d ∷ file) s e =
 
 -- ---- words of bytes are below 2^32
 
-byte-small : (file : List ℕ) → Below 256 file → (i : ℕ) → getD file i 0 < 256
+byte-small : (file : List ℕ) → AllBelow 256 file → (i : ℕ) → getD file i 0 < 256
 byte-small [] s zero = omega arith
 byte-small [] s (suc i) = omega arith
 byte-small (x ∷ xs) s zero = s .0
 byte-small (x ∷ xs) s (suc i) = byte-small xs (s .1) i
 
-word-small : (file : List ℕ) → Below 256 file → (at : ℕ) → wordAt file at < 4294967296
+word-small : (file : List ℕ) → AllBelow 256 file → (at : ℕ) → wordAt file at < 4294967296
 unfolding wordAt
 word-small file s at = omega (arith, byte-small file s at, byte-small file s (at + 1), byte-small file s (at + 2), byte-small file s (at + 3))
 
-pub words-small : (file : List ℕ) → Below 256 file → (at count : ℕ) → Below 4294967296 (wordsAt file at count)
+pub words-small : (file : List ℕ) → AllBelow 256 file → (at count : ℕ) → AllBelow 4294967296 (wordsAt file at count)
 unfolding wordsAt
 words-small file s at zero = tt
 words-small file s at (suc count) = (word-small file s at, words-small file s (at + 4) count)

@@ -21,7 +21,7 @@ use Rattle.words.proofs.Places.{over-whole}
 use Rattle.reading.specs.Reading.{requestCount, planPlace, planCount, fileEnd, fileRequests, filePlan, planFits, sizeTests, readTests, sizesOf, sizesBy, readOf}
 use Rattle.reading.specs.declared.Sizes.{Sizes}
 use Rattle.reading.specs.declared.ReadAnswer.the-variants.{Bundle}
-use Rattle.reading.proofs.Chains.{fits-small, passes, met, stops, goes-on, stops-first, stops-second, goes-to-third, first-open, open-file, bundle-open}
+use Rattle.reading.proofs.Chains.{fits-small, passes, is-met, stops, goes-on, stops-first, stops-second, goes-to-third, first-open, open-file, bundle-open}
 use Rattle.bundle.specs.Bytes.{section}
 use Rattle.bundle.specs.Devices.Over.{over}
 use Rattle.bundle.specs.Reading.{requestsLeft, planLeft}
@@ -113,7 +113,7 @@ module _ (n m : ℕ) (trace : List ℕ) (planned : ℕ) where
 
     pub call-planned : planned ≤ length trace
     unfolding callTests
-    call-planned = fits-small (length trace) planned (met _ (passes (callTests n m trace planned) 6 o (omega arith)))
+    call-planned = fits-small (length trace) planned (is-met _ (passes (callTests n m trace planned) 6 o (omega arith)))
 
 module _ (n m : ℕ) (trace plan room : List ℕ) where
   abbrev roomPart : List Test

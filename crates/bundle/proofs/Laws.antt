@@ -21,11 +21,11 @@ use Rattle.words.proofs.Bytes.{length-words}
 use Rattle.reading.specs.Reading.{requestCount, planPlace, planCount, fileRequests, filePlan, planFits, sizeTests, sizesOf, readOf}
 use Rattle.reading.specs.declared.Sizes.{Sizes}
 use Rattle.reading.specs.declared.ReadAnswer.the-variants.{Bundle}
-use Rattle.reading.proofs.Chains.{passes, met, inside, first-open, OpenFile, open-file, file-opens, bundle-open}
+use Rattle.reading.proofs.Chains.{passes, is-met, inside, first-open, OpenFile, open-file, file-opens, bundle-open}
 use Rattle.bundle.specs.Bytes.{bytesIn}
 use Rattle.bundle.specs.Reading.{requestsLeft, planLeft}
 use Rattle.bundle.specs.Writing.{fileOf, callTests, writeTests, bytesBy, writeOf, roomLeft}
-use Rattle.bundle.specs.Accepted.{Below}
+use Rattle.bundle.specs.Accepted.{AllBelow}
 use Rattle.bundle.specs.declared.WriteAnswer.the-variants.{Bytes}
 use Rattle.bundle.proofs.Bytes.{length-bytes, bytes-append}
 use Rattle.bundle.proofs.Chains.{read-done, length-file, call-requests, call-planned, write-done}
@@ -64,7 +64,7 @@ module _ (n m : ℕ) (trace plan : List ℕ) (o : gate (callTests n m trace (len
 
   pub plan-fits : planFits (length trace) (length plan) ≡ true
   unfolding callTests
-  plan-fits = met _ (passes (callTests n m trace (length plan)) 6 o (omega arith))
+  plan-fits = is-met _ (passes (callTests n m trace (length plan)) 6 o (omega arith))
 
   small-sizes : (n < 4294967296) × (m < 4294967296)
   small-sizes =
@@ -72,7 +72,7 @@ module _ (n m : ℕ) (trace plan : List ℕ) (o : gate (callTests n m trace (len
       let k : m ≤ n = ltb-false n m m-below in
       (omega arith, omega arith)
 
-  module _ (wt : Below 4294967296 trace) (wp : Below 4294967296 plan) where
+  module _ (wt : AllBelow 4294967296 trace) (wp : AllBelow 4294967296 plan) where
     front-words : wordsAt (fileOf n m trace plan) 0 (length (2 ∷ n ∷ m ∷ length trace ∷ trace)) ≡ 2 ∷ n ∷ m ∷ length trace ∷ trace
     front-words =
         let t : length trace ≤ requestLimit = call-requests n m trace (length plan) o in
@@ -186,7 +186,7 @@ written-file n m k trace plan room file e f =
     )
 
 -- "reading what it wrote gives the same values": the first k bytes of the room, for words of 32 bits and lists with room for both sections
-pub reading-what-was-written : (n m k : ℕ) (trace plan room file requests lent : List ℕ) → Below 4294967296 trace → Below 4294967296 plan
+pub reading-what-was-written : (n m k : ℕ) (trace plan room file requests lent : List ℕ) → AllBelow 4294967296 trace → AllBelow 4294967296 plan
     → writeOf n m trace plan (length room) ≡ Bytes k → take k (roomLeft n m trace plan room) ≡ file
     → length trace ≤ length requests → length plan ≤ length lent
     → (readOf file (length requests) (length lent) ≡ Bundle (record { n = n; m = m; requests = length trace; planned = length plan }))
@@ -215,7 +215,7 @@ module _ (file : List ℕ) (a b : ℕ) (d : OpenFile file a b) where
       ap (λ (k : ℕ). wordsAt file 0 (suc (suc (suc (suc (requestCount file))))) ++ wordsAt file k (suc (planCount file))) e
       ∙ sym (words-append file 0 (suc (suc (suc (suc (requestCount file))))) (suc (planCount file)))
 
-  pub same-bytes : Below 256 file → fileOf (wordAt file 4) (wordAt file 8) (fileRequests file) (filePlan file) ≡ file
+  pub same-bytes : AllBelow 256 file → fileOf (wordAt file 4) (wordAt file 8) (fileRequests file) (filePlan file) ≡ file
   unfolding fileRequests filePlan
   same-bytes s =
       let l : length file ≡ 4 * (suc (suc (suc (suc (requestCount file)))) + suc (planCount file)) = omega (arith, d .form .whole) in
@@ -247,7 +247,7 @@ read-words file requests lent sizes e =
     )
 
 -- "writing what was read gives the same bytes": for every accepted file, its values written into a room that is large enough
-pub writing-what-was-read : (file requests lent room : List ℕ) (sizes : Sizes) (trace plan : List ℕ) → Below 256 file
+pub writing-what-was-read : (file requests lent room : List ℕ) (sizes : Sizes) (trace plan : List ℕ) → AllBelow 256 file
     → readOf file (length requests) (length lent) ≡ Bundle sizes
     → take (sizes .requests) (requestsLeft file requests (length lent)) ≡ trace
     → take (sizes .planned) (planLeft file (length requests) lent) ≡ plan

@@ -21,7 +21,7 @@ use Rattle.reading.specs.declared.ReadAnswer.the-variants.{Bundle, Refused}
 use Rattle.reading.proofs.Chains.{OpenFile, open-file, file-opens, bundle-open}
 use Rattle.bundle.specs.Reading.{requestsLeft, planLeft}
 use Rattle.bundle.specs.Writing.{fileOf, callTests, writeOf, roomLeft}
-use Rattle.bundle.specs.Accepted.{Below}
+use Rattle.bundle.specs.Accepted.{AllBelow}
 use Rattle.bundle.specs.declared.WriteAnswer.the-variants.{Bytes}
 use Rattle.bundle.proofs.Chains.{read-done}
 use Rattle.bundle.proofs.Laws.{front-parts, same-requests, same-plan, written-file, read-words}
@@ -30,8 +30,8 @@ use Rattle.bundle.proofs.Laws.{front-parts, same-requests, same-plan, w
 
 -- TWO CALLS IN ORDER that make the same file are of the same values
 pub one-bundle : (n m n′ m′ : ℕ) (trace plan trace′ plan′ : List ℕ)
-    → gate (callTests n m trace (length plan)) ≡ Open → Below 4294967296 trace → Below 4294967296 plan
-    → gate (callTests n′ m′ trace′ (length plan′)) ≡ Open → Below 4294967296 trace′ → Below 4294967296 plan′
+    → gate (callTests n m trace (length plan)) ≡ Open → AllBelow 4294967296 trace → AllBelow 4294967296 plan
+    → gate (callTests n′ m′ trace′ (length plan′)) ≡ Open → AllBelow 4294967296 trace′ → AllBelow 4294967296 plan′
     → fileOf n m trace plan ≡ fileOf n′ m′ trace′ plan′
     → (n ≡ n′) × (m ≡ m′) × (trace ≡ trace′) × (plan ≡ plan′)
 one-bundle n m n′ m′ trace plan trace′ plan′ o wt wp o′ wt′ wp′ e =
@@ -45,7 +45,7 @@ one-bundle n m n′ m′ trace plan trace′ plan′ o wt wp o′ wt′ wp′ e 
 
 -- so are two writings that are not refused and leave the same bytes
 pub one-writing : (n m k n′ m′ k′ : ℕ) (trace plan room trace′ plan′ room′ file : List ℕ)
-    → Below 4294967296 trace → Below 4294967296 plan → Below 4294967296 trace′ → Below 4294967296 plan′
+    → AllBelow 4294967296 trace → AllBelow 4294967296 plan → AllBelow 4294967296 trace′ → AllBelow 4294967296 plan′
     → writeOf n m trace plan (length room) ≡ Bytes k → take k (roomLeft n m trace plan room) ≡ file
     → writeOf n′ m′ trace′ plan′ (length room′) ≡ Bytes k′ → take k′ (roomLeft n′ m′ trace′ plan′ room′) ≡ file
     → (n ≡ n′) × (m ≡ m′) × (trace ≡ trace′) × (plan ≡ plan′)

@@ -11,9 +11,9 @@ use Rattle.reading.specs.declared.Sizes.{Sizes}
 use Rattle.bundle.specs.Writing.{fileOf}
 
 -- every number of a list is below a bound: 256 for bytes, 4,294,967,296 for words
-abbrev pub Below : ℕ → List ℕ → Type 0
-Below bound [] = Unit {0}
-Below bound (x ∷ xs) = (x < bound) × Below bound xs
+abbrev pub AllBelow : ℕ → List ℕ → Type 0
+AllBelow bound [] = Unit {0}
+AllBelow bound (x ∷ xs) = (x < bound) × AllBelow bound xs
 
 -- sizes, requests and plan that a bundle may hold: n and the requests as in a call, m at most n, a plan of no words or one for each request
 pub record ValuesInOrder (n m : ℕ) (trace plan : List ℕ) : Type 0 where
@@ -27,7 +27,7 @@ pub record AcceptedFile (file : List ℕ) (forRequests forPlan : ℕ) (sizes : S
   pub trace : List ℕ
   pub plan : List ℕ
   pub in-order : ValuesInOrder (sizes .n) (sizes .m) trace plan
-  pub words : Below 4294967296 trace × Below 4294967296 plan
+  pub words : AllBelow 4294967296 trace × AllBelow 4294967296 plan
   pub bytes : file ≡ fileOf (sizes .n) (sizes .m) trace plan
   pub requests : sizes .requests ≡ length trace
   pub planned : sizes .planned ≡ length plan

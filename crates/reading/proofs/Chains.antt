@@ -63,9 +63,9 @@ failed false e = refl
 pub passes : (ts : List Test) (i : ℕ) → gate ts ≡ Open → i < length ts → getD ts i (test false LentTooShort) .when ≡ false
 passes ts i e h = failed _ (all-at (λ (t : Test). not (t .when)) (test false LentTooShort) ts (open-exactly ts .0 e) i h)
 
-pub met : (b : Bool) → not b ≡ false → b ≡ true
-met true e = refl
-met false e = absurd (false≢true (sym e))
+pub is-met : (b : Bool) → not b ≡ false → b ≡ true
+is-met true e = refl
+is-met false e = absurd (false≢true (sym e))
 
 -- a chain in parts: the refusal of an earlier part decides, else the last part does
 module _ (xs ys : List Test) where
@@ -139,9 +139,9 @@ pub record Formed (file : List ℕ) : Type 0 where
 pub formed : (file : List ℕ) → gate (formTests file) ≡ Open → Formed file
 unfolding formTests
 formed file o =
-    let f : planFits (requestCount file) (planCount file) ≡ true = met _ (passes (formTests file) 5 o (omega arith)) in
+    let f : planFits (requestCount file) (planCount file) ≡ true = is-met _ (passes (formTests file) 5 o (omega arith)) in
     record {
-      sizes = eqb-true (wordAt file 0) 2 (met _ (passes (formTests file) 1 o (omega arith)));
+      sizes = eqb-true (wordAt file 0) 2 (is-met _ (passes (formTests file) 1 o (omega arith)));
       requests = ltb-false requestLimit (requestCount file) (passes (formTests file) 3 o (omega arith));
       fits = f;
       planned = fits-small (requestCount file) (planCount file) f;

@@ -24,8 +24,8 @@ use Rattle.text.specs.Decimal.{digitAt, decimal}
 use Rattle.text.specs.Lines.{pair, refusedLine, line}
 use Rattle.reporting.specs.Report.{requestsWord, claimWord, noneWord, claimed, claimLine, rulesText, linesOf, textBy, reportOf}
 
-abbrev faultsIn : ℕ → ℕ → List ℕ → ℕ
-faultsIn rule n trace = answerNumbers (countOf rule n trace) .faults
+abbrev faultsTold : ℕ → ℕ → List ℕ → ℕ
+faultsTold rule n trace = answerNumbers (countOf rule n trace) .faults
 
 joined : (xs ys : List ℕ) (a b : ℕ) → length xs ≤ a → length ys ≤ b → length (xs ++ ys) ≤ a + b
 joined xs ys a b h k = omega (arith, length-append xs ys)
@@ -83,11 +83,11 @@ rules-short sizes trace =
       arith,
       decimal-short (sizes .n),
       decimal-short (sizes .m),
-      decimal-short (faultsIn 1 (sizes .n) trace),
-      decimal-short (faultsIn 2 (sizes .n) trace),
-      decimal-short (faultsIn 3 (sizes .n) trace),
-      decimal-short (faultsIn 4 (sizes .n) trace),
-      decimal-short (faultsIn 3 (sizes .m) trace),
+      decimal-short (faultsTold 1 (sizes .n) trace),
+      decimal-short (faultsTold 2 (sizes .n) trace),
+      decimal-short (faultsTold 3 (sizes .n) trace),
+      decimal-short (faultsTold 4 (sizes .n) trace),
+      decimal-short (faultsTold 3 (sizes .m) trace),
     ))
 
 lines-short : (sizes : Sizes) (trace plan : List ℕ) → length (linesOf sizes trace plan) ≤ 191
