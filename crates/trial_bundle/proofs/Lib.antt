@@ -1,0 +1,2 @@
+-- What the proofs of the trials use.
+pub mod Parts
