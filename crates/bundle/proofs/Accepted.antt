@@ -2,12 +2,12 @@
 -- Assumes nothing.
 use mathlib.Core.Path.{_≡_, sym, ap, ap₂, subst, _∙_}
 use mathlib.Core.Bool.{Bool, true}
-use mathlib.Core.Logic.{_⊎_, inl, inr, _↔_}
+use mathlib.Core.Logic.{_↔_}
 use mathlib.Core.List.{List}
 use Prim.Native.Nat.{ℕ, _+_, _≤_}
 use native.Mathlib.Omega.{arith}
 use lib.ListN.{length}
-use borrow.Author.Tests.{le-ltb, ltb-false, eq-eqb}
+use borrow.Author.Tests.{le-ltb, ltb-false}
 use Rattle.paging.specs.Lists.{pick, not}
 use Rattle.paging.specs.Calls.{frameLimit, gate, traceTests}
 use Rattle.paging.specs.declared.Gate.the-variants.{Open, No}

@@ -21,7 +21,7 @@ use Rattle.reading.specs.declared.Sizes.{Sizes}
 use Rattle.reading.specs.declared.ReadAnswer.{ReadAnswer}
 use Rattle.reading.specs.declared.ReadAnswer.the-variants as read
 use Rattle.text.specs.Decimal.{digitAt, decimal}
-use Rattle.text.specs.Lines.{pair, refusedLine, line}
+use Rattle.text.specs.Lines.{pair, refusedLine}
 use Rattle.reporting.specs.Report.{requestsWord, claimWord, noneWord, claimed, claimLine, rulesText, linesOf, textBy, reportOf}
 
 abbrev faultsTold : ℕ → ℕ → List ℕ → ℕ
@@ -57,9 +57,6 @@ decimal-short x =
 
 pair-short : (x : ℕ) (between : List ℕ) (y : ℕ) → length (pair x between y) ≤ 21 + length between
 pair-short x between y = simp length-append (omega (arith, decimal-short x, decimal-short y))
-
-line-short : (name : List ℕ) (frames faults : ℕ) → length (line name frames faults) ≤ 22 + length name
-line-short name frames faults = omega (arith, length-append name (pair frames (32 ∷ []) faults), pair-short frames (32 ∷ []) faults)
 
 refused-short : (refusal : Refusal) → length (refusedLine refusal) ≤ 33
 refused-short refusal = omega (arith, pair-short (table refusal .number) (32 ∷ 97 ∷ 116 ∷ 32 ∷ []) (table refusal .place))
