@@ -124,7 +124,7 @@ def functions_of(file, text):
             owner = implemented.group(1)
         elif line == "}":
             owner = module
-        elif begun := re.match(r'( *)(pub )?(?:extern "C" )?fn (\w+)', line):
+        elif begun := re.match(r'( *)(pub )?(?:pub\(\w+\) )?(?:extern "C" )?fn (\w+)', line):
             indent, public, name = begun.groups()
             body = first_line(lines, number, lambda s: s.endswith(("{", "{}")))
             last = body if lines[body - 1].endswith("{}") else first_line(lines, body, lambda s: s == indent + "}")

@@ -93,7 +93,7 @@ fn feed_both(was: &[u32; 1028], page: u32, record: &mut [u32; 1028]) {
 }
 
 // page, for the record of the line before, or page; record
-pub fn feed(line: Line, words: &[u32; 16500], record: &mut [u32; 1028]) {
+pub(crate) fn feed(line: Line, words: &[u32; 16500], record: &mut [u32; 1028]) {
     if line.first != 0 {
         take(part(words, line.first, 1029), record);
     }
@@ -168,7 +168,7 @@ fn show_both(two: Replies, page: u32) {
 }
 
 // page page: two requests of a kept record, and both by value
-pub fn twice(words: &[u32; 16500], record: &mut [u32; 1028]) {
+pub(crate) fn twice(words: &[u32; 16500], record: &mut [u32; 1028]) {
     let was = *record;
     let mut other = [0u32; 1028];
     let a = both_by_value(&was, words[0], words[1], &mut other);
@@ -178,7 +178,7 @@ pub fn twice(words: &[u32; 16500], record: &mut [u32; 1028]) {
 }
 
 // record, for the requests of the lines after
-pub fn take(words: &[u32], record: &mut [u32; 1028]) {
+pub(crate) fn take(words: &[u32], record: &mut [u32; 1028]) {
     records::record_into(records::record_of(words), record);
 }
 
@@ -201,7 +201,7 @@ fn fresh(rule: u32, frames: u32, record: &mut [u32; 1028]) {
 }
 
 // rule frames
-pub fn new(words: &[u32; 16500], record: &mut [u32; 1028]) {
+pub(crate) fn new(words: &[u32; 16500], record: &mut [u32; 1028]) {
     let mut blank = [0u32; 1028];
     records::record_into(Cache::blank(), &mut blank);
     fresh(words[0], words[1], record);

@@ -14,12 +14,12 @@ fn show_answer(answer: Answer) {
 }
 
 // rule n; trace
-pub fn count(line: Line, words: &[u32; 16500]) {
+pub(crate) fn count(line: Line, words: &[u32; 16500]) {
     show_answer(counts::count(words[0], words[1], part(words, line.first, line.place)));
 }
 
 // rule n; trace. The plan goes into ten words that all hold 9.
-pub fn write_plan(line: Line, words: &[u32; 16500]) {
+pub(crate) fn write_plan(line: Line, words: &[u32; 16500]) {
     let mut plan = [9u32; 10];
     let trace = part(words, line.first, line.place);
     show_answer(counts::write_plan(words[0], words[1], trace, &mut plan));
@@ -28,7 +28,7 @@ pub fn write_plan(line: Line, words: &[u32; 16500]) {
 }
 
 // m; trace; plan
-pub fn judge(line: Line, words: &[u32; 16500]) {
+pub(crate) fn judge(line: Line, words: &[u32; 16500]) {
     let trace = part(words, line.first, line.second);
     show_answer(judge::check(words[0], trace, part(words, line.second, line.place)));
 }
@@ -44,7 +44,7 @@ fn show_better<'a>(m: u32, trace: &[u32], first: &'a [u32], second: &'a [u32]) {
 }
 
 // m; trace; plan; plan
-pub fn better(line: Line, words: &[u32; 16500]) {
+pub(crate) fn better(line: Line, words: &[u32; 16500]) {
     let trace = part(words, line.first, line.second);
     let first = part(words, line.second, line.third);
     show_better(words[0], trace, first, part(words, line.third, line.place));
@@ -65,7 +65,7 @@ fn show_rounds(trace: &[u32; 8000], plan: &[u32; 8000]) {
 }
 
 // The plan's last word
-pub fn turns(words: &[u32; 16500]) {
+pub(crate) fn turns(words: &[u32; 16500]) {
     let mut trace = [0u32; 8000];
     let mut plan = [MARK; 8000];
     rounds(&mut trace, &mut plan);

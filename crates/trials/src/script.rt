@@ -21,7 +21,7 @@ const NUMBER: u8 = 2;
 
 const TIMES: u8 = 3;
 
-pub fn begun() -> Line {
+pub(crate) fn begun() -> Line {
     Line {
         stage: NAME,
         verb: 0,
@@ -124,7 +124,7 @@ fn sign(line: Line, byte: u8) -> Line {
     next
 }
 
-pub fn step(line: Line, byte: u8, words: &mut [u32; 16500]) -> Line {
+pub(crate) fn step(line: Line, byte: u8, words: &mut [u32; 16500]) -> Line {
     if line.stage == NAME {
         return named(line, byte);
     }
@@ -143,7 +143,7 @@ pub fn step(line: Line, byte: u8, words: &mut [u32; 16500]) -> Line {
 }
 
 // The words from one place to another; none, if there are none.
-pub fn part<'a>(words: &'a [u32; 16500], from: usize, to: usize) -> &'a [u32] {
+pub(crate) fn part<'a>(words: &'a [u32; 16500], from: usize, to: usize) -> &'a [u32] {
     let all = &words[..];
     if from <= to {
         if to <= all.len() {

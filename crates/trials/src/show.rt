@@ -1,16 +1,16 @@
 // What lines print: numbers and words.
 use paging::MARK;
 
-pub fn end() {
+pub(crate) fn end() {
     io::write_all(1, b"\n");
 }
 
-pub fn number(number: u32) {
+pub(crate) fn number(number: u32) {
     io::write_all(1, b" ");
     io::print_decimal(1, number as u64);
 }
 
-pub fn word(word: u32) {
+pub(crate) fn word(word: u32) {
     if word == MARK {
         io::write_all(1, b" -");
         return;
@@ -18,7 +18,7 @@ pub fn word(word: u32) {
     number(word);
 }
 
-pub fn words(words: &[u32]) {
+pub(crate) fn words(words: &[u32]) {
     for i in 0..words.len() {
         word(words[i]);
     }
