@@ -3,7 +3,7 @@
 ghost use mathlib.Core.Path.{_≡_};
 ghost use lib.ListN.{length, take};
 ghost use Rattle.paging.specs.Services.{laid};
-ghost use Rattle.text.specs.Putting.{Put};
+ghost use Rattle.text.specs.Devices.{Put};
 ghost use Rattle.reporting.specs.Report.{ruleLine, claimed, claimLine, rulesText, linesOf, reportOf};
 use paging::Answer;
 use reading::ReadAnswer;

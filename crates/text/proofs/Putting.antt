@@ -8,8 +8,16 @@ use lib.ListN.{length, getD, take, set, length-append, length-set}
 use lib.Seq.{take-suc, append-snoc, set-at, set-out, drop-nil, take-nil}
 use borrow.Author.Tests.{lt-ltb, le-ltb}
 use Rattle.paging.specs.Services.{laid}
-use Rattle.text.specs.Putting.{behind, placeBehind, roomBehind, Put}
+use Rattle.text.specs.Putting.{behind, placeBehind, roomBehind}
+use Rattle.text.specs.Devices.{Put}
 use Rattle.text.specs.Decimal.{digitAt}
+
+-- the two equalities of a promise, as one
+pub heard : (at : ℕ) (bytes room : List ℕ) (place : ℕ) (left : List ℕ) → (place ≡ placeBehind at bytes room) × (left ≡ roomBehind at bytes room) → Put at bytes room place left
+heard at bytes room place left e = record { place-is = e .0; room-is = e .1 }
+
+pub said : {at : ℕ} {bytes room : List ℕ} {place : ℕ} {left : List ℕ} → Put at bytes room place left → (place ≡ placeBehind at bytes room) × (left ≡ roomBehind at bytes room)
+said p = (p .place-is, p .room-is)
 
 pub put-none : (at : ℕ) (room : List ℕ) → Put at [] room at room
 unfolding placeBehind roomBehind

@@ -1,6 +1,5 @@
 -- Bytes put into a room one behind the other from a place on, as long as there is room.
 -- Assumes nothing.
-use mathlib.Core.Path.{_≡_}
 use mathlib.Core.List.{List, [], _∷_}
 use Prim.Native.Nat.{ℕ, _+_}
 use lib.Dec.{ltb}
@@ -20,8 +19,3 @@ placeBehind at (byte ∷ bytes) room = placeBehind (behind at room) bytes (set r
 unfoldable pub roomBehind : ℕ → List ℕ → List ℕ → List ℕ
 roomBehind at [] room = room
 roomBehind at (byte ∷ bytes) room = roomBehind (behind at room) bytes (set room at byte)
-
--- what a function answers and leaves that puts these bytes from that place on
-pub record Put (at : ℕ) (bytes room : List ℕ) (place : ℕ) (left : List ℕ) : Type 0 where
-  pub place-is : place ≡ placeBehind at bytes room
-  pub room-is : left ≡ roomBehind at bytes room

@@ -4,14 +4,15 @@
 ghost use mathlib.Core.Path.{_≡_};
 ghost use mathlib.Core.List.{[], _∷_};
 ghost use Prim.Native.Nat.{_+_, _%_, _<_};
-ghost use Rattle.text.specs.Putting.{Put};
+ghost use Rattle.text.specs.Putting.{placeBehind, roomBehind};
+ghost use Rattle.text.specs.Devices.{Put};
 ghost use Rattle.text.specs.Decimal.{digitAt, decimal};
 ghost use Rattle.text.specs.Lines.{pair, refusedLine, line};
 use paging::Refusal;
 
 // One byte.
 pub fn put(room: &mut [u8], at: usize, byte: u8) -> usize
-    ensures { λ r. ⌜ Put at (byte ∷ []) (now (room .entry)) r (now (room .exit)) ⌝ }
+    ensures { λ r. ⌜ (r ≡ placeBehind at (byte ∷ []) (now (room .entry))) × (now (room .exit) ≡ roomBehind at (byte ∷ []) (now (room .entry))) ⌝ }
 {
     if at < room.len() {
         room[at] = byte;
@@ -22,7 +23,7 @@ pub fn put(room: &mut [u8], at: usize, byte: u8) -> usize
 
 // Some bytes.
 pub fn word(room: &mut [u8], at: usize, bytes: &[u8]) -> usize
-    ensures { λ r. ⌜ Put at (now (bytes .entry)) (now (room .entry)) r (now (room .exit)) ⌝ }
+    ensures { λ r. ⌜ (r ≡ placeBehind at (now (bytes .entry)) (now (room .entry))) × (now (room .exit) ≡ roomBehind at (now (bytes .entry)) (now (room .entry))) ⌝ }
 {
     let mut here = at;
     let mut i = 0;
@@ -51,7 +52,7 @@ fn digit(room: &mut [u8], at: usize, x: u32, power: u32) -> usize
 
 // A number in decimal, without leading zeros.
 pub fn number(room: &mut [u8], at: usize, x: u32) -> usize
-    ensures { λ r. ⌜ Put at (decimal x) (now (room .entry)) r (now (room .exit)) ⌝ }
+    ensures { λ r. ⌜ (r ≡ placeBehind at (decimal x) (now (room .entry))) × (now (room .exit) ≡ roomBehind at (decimal x) (now (room .entry))) ⌝ }
 {
     let a = digit(room, at, x, 1000000000);
     let b = digit(room, a, x, 100000000);
@@ -67,7 +68,7 @@ pub fn number(room: &mut [u8], at: usize, x: u32) -> usize
 
 // Two numbers with something between, and a line feed.
 pub fn two_numbers(room: &mut [u8], at: usize, x: u32, between: &[u8], y: u32) -> usize
-    ensures { λ r. ⌜ Put at (pair x (now (between .entry)) y) (now (room .entry)) r (now (room .exit)) ⌝ }
+    ensures { λ r. ⌜ (r ≡ placeBehind at (pair x (now (between .entry)) y) (now (room .entry))) × (now (room .exit) ≡ roomBehind at (pair x (now (between .entry)) y) (now (room .entry))) ⌝ }
 {
     let a = number(room, at, x);
     let b = word(room, a, between);
@@ -77,7 +78,7 @@ pub fn two_numbers(room: &mut [u8], at: usize, x: u32, between: &[u8], y: u32) -
 
 // A refusal's number and place.
 pub fn refused_line(room: &mut [u8], at: usize, refusal: Refusal) -> usize
-    ensures { λ r. ⌜ Put at (refusedLine refusal) (now (room .entry)) r (now (room .exit)) ⌝ }
+    ensures { λ r. ⌜ (r ≡ placeBehind at (refusedLine refusal) (now (room .entry))) × (now (room .exit) ≡ roomBehind at (refusedLine refusal) (now (room .entry))) ⌝ }
 {
     let a = word(room, at, b"refused ");
     two_numbers(room, a, refusal.number(), b" at ", refusal.place())
@@ -85,7 +86,7 @@ pub fn refused_line(room: &mut [u8], at: usize, refusal: Refusal) -> usize
 
 // A name, a number of frames and the faults.
 pub fn line(room: &mut [u8], at: usize, name: &[u8], frames: u32, faults: u32) -> usize
-    ensures { λ r. ⌜ Put at (line (now (name .entry)) frames faults) (now (room .entry)) r (now (room .exit)) ⌝ }
+    ensures { λ r. ⌜ (r ≡ placeBehind at (line (now (name .entry)) frames faults) (now (room .entry))) × (now (room .exit) ≡ roomBehind at (line (now (name .entry)) frames faults) (now (room .entry))) ⌝ }
 {
     let a = word(room, at, name);
     two_numbers(room, a, frames, b" ", faults)

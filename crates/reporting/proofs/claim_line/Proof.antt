@@ -4,7 +4,7 @@ use borrow.Author.Needs.{needs}
 use mathlib.Core.Path.{ap}
 use borrow.Author.Tests.{eq-eqb, ne-eqb}
 use Rattle.reporting.specs.Report.{claimed}
-use Rattle.text.proofs.Putting.{put-then, put-same}
+use Rattle.text.proofs.Putting.{heard, put-then, put-same}
 use Rattle.reporting.proofs.claim_line.Statement.{statement}
 use Rattle.reporting.proofs.claim_line.Tie as tie
 
@@ -28,7 +28,7 @@ returns c =
     let n = c .before .before in
     let t = n .before .before .before in
     let w = t .before .before .before .before in
-    rw (eq-eqb _ _ (t .if1 .taken)) (put-then (w .word .ensures) (n .word2 .ensures))
+    rw (eq-eqb _ _ (t .if1 .taken)) (put-then (heard _ _ _ _ _ (w .word .ensures)) (heard _ _ _ _ _ (n .word2 .ensures)))
 
 check-requires : tie.Need-check-requires
 check-requires c κs = search needs
@@ -46,7 +46,7 @@ returns-2 c =
     let e = k .before .before in
     let w = e .before .before .before .before in
     let s = w .before .before .before .before .before .before in
-    rw (ne-eqb _ _ (e .if1 .left)) (put-then (w .word .ensures) (put-same (ap (claimed (s .args .sizes .m)) (k .check .ensures .0)) (l .claimed .ensures)))
+    rw (ne-eqb _ _ (e .if1 .left)) (put-then (heard _ _ _ _ _ (w .word .ensures)) (put-same (ap (claimed (s .args .sizes .m)) (k .check .ensures .0)) (l .claimed .ensures)))
 
 pub claim-line-spec : {M : Type 1} → statement M
 claim-line-spec =

@@ -3,7 +3,7 @@
 use borrow.Author.Needs.{needs}
 use mathlib.Core.Path.{sym, ap}
 use Rattle.paging.specs.declared.Answer.{Answer}
-use Rattle.text.proofs.Putting.{put-same}
+use Rattle.text.proofs.Putting.{heard, put-same}
 use Rattle.reporting.specs.Report.{claimed}
 use Rattle.reporting.proofs.claimed.Statement.{statement}
 use Rattle.reporting.proofs.claimed.Tie as tie
@@ -31,7 +31,7 @@ returns c =
     let l = c .before .before in
     let a = l .before .before .before .before in
     let s = a .before .before .before in
-    put-same (ap (λ (answer : Answer). claimed (s .args .m) answer) (sym (a .answer .given .1))) (l .two-numbers .ensures)
+    put-same (ap (λ (answer : Answer). claimed (s .args .m) answer) (sym (a .answer .given .1))) (heard _ _ _ _ _ (l .two-numbers .ensures))
 
 same-length-2 : tie.Need-same-length-2
 same-length-2 c = search needs
@@ -41,7 +41,7 @@ returns-2 c =
     let r = c .before .before in
     let a = r .before .before .before in
     let s = a .before .before .before in
-    put-same (ap (λ (answer : Answer). claimed (s .args .m) answer) (sym (a .answer2 .given .1))) (r .refused-line .ensures)
+    put-same (ap (λ (answer : Answer). claimed (s .args .m) answer) (sym (a .answer2 .given .1))) (heard _ _ _ _ _ (r .refused-line .ensures))
 
 pub claimed-spec : {M : Type 1} → statement M
 claimed-spec =

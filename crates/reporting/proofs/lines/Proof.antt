@@ -1,7 +1,7 @@
 -- `reporting::lines` meets its contract.
 -- Assumes nothing.
 use borrow.Author.Needs.{needs}
-use Rattle.text.proofs.Putting.{put-then}
+use Rattle.text.proofs.Putting.{heard, put-then}
 use Rattle.reporting.proofs.lines.Statement.{statement}
 use Rattle.reporting.proofs.lines.Tie as tie
 
@@ -33,7 +33,7 @@ returns c =
     let p = d .before .before .before .before in
     let x = p .before .before .before .before in
     let w = x .before .before .before .before in
-    put-then (put-then (put-then (put-then (w .word .ensures) (x .number .ensures)) (p .put .ensures)) (d .rules-text .ensures)) (e .claim-line .ensures)
+    put-then (put-then (put-then (put-then (heard _ _ _ _ _ (w .word .ensures)) (heard _ _ _ _ _ (x .number .ensures))) (heard _ _ _ _ _ (p .put .ensures))) (d .rules-text .ensures)) (e .claim-line .ensures)
 
 pub lines-spec : {M : Type 1} → statement M
 lines-spec =

@@ -10,7 +10,7 @@ use Rattle.paging.specs.Calls.{requestLimit}
 use Rattle.reading.specs.Reading.{readOf}
 use Rattle.reading.specs.declared.ReadAnswer.the-variants.{Bundle}
 use Rattle.reporting.specs.Report.{linesOf}
-use Rattle.text.proofs.Putting.{put-same, put-whole}
+use Rattle.text.proofs.Putting.{heard, put-same, put-whole}
 use Rattle.reporting.proofs.Reading.{text-refused, both-fit, text-lines}
 use Rattle.reporting.proofs.report.Statement.{statement}
 use Rattle.reporting.proofs.report.Tie as tie
@@ -80,7 +80,7 @@ returns c =
     let a = l .before .before .before in
     let r = a .before .before .before .before in
     let s = r .before .before .before .before .before in
-    put-whole (put-same (text-refused (s .args .file .now) _ (sym (r .read .ensures .0) ∙ a .refusal .given .1)) (l .refused-line .ensures))
+    put-whole (put-same (text-refused (s .args .file .now) _ (sym (r .read .ensures .0) ∙ a .refusal .given .1)) (heard _ _ _ _ _ (l .refused-line .ensures)))
 
 same-length-2 : tie.Need-same-length-2
 same-length-2 c = search needs

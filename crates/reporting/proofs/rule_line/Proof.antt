@@ -5,7 +5,7 @@ use mathlib.Core.Path.{ap, _∙_}
 use Rattle.calls.specs.Answers.{answerNumbers}
 use Rattle.calls.specs.declared.AnswerNumbers.{AnswerNumbers}
 use Rattle.text.specs.Lines.{line}
-use Rattle.text.proofs.Putting.{put-same}
+use Rattle.text.proofs.Putting.{heard, put-same}
 use Rattle.reporting.proofs.rule_line.Statement.{statement}
 use Rattle.reporting.proofs.rule_line.Tie as tie
 
@@ -29,7 +29,7 @@ returns c =
     let s = n .before .before .before .before in
     put-same
     (ap (λ (told : AnswerNumbers). line (s .args .name .now) (s .args .frames) (told .faults)) (a .answer-numbers .ensures ∙ ap answerNumbers (n .count .ensures .0)))
-    (l .line .ensures)
+    (heard _ _ _ _ _ (l .line .ensures))
 
 pub rule-line-spec : {M : Type 1} → statement M
 rule-line-spec =

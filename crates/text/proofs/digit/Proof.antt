@@ -1,7 +1,7 @@
 -- `text::digit` meets its contract.
 -- Assumes nothing.
 use borrow.Author.Needs.{needs}
-use Rattle.text.proofs.Putting.{put-byte, put-same, digit-none, digit-one}
+use Rattle.text.proofs.Putting.{heard, put-byte, put-same, digit-none, digit-one}
 use Rattle.text.proofs.digit.Statement.{statement}
 use Rattle.text.proofs.digit.Tie as tie
 
@@ -26,7 +26,7 @@ returns-2 c =
     let f = p .before in
     let e = f .before .before in
     let s = e .before .before in
-    put-same (digit-one (s .args .x) (s .args .power) (e .if1 .left)) (put-byte (f .figure .ensures) (p .put .ensures))
+    put-same (digit-one (s .args .x) (s .args .power) (e .if1 .left)) (put-byte (f .figure .ensures) (heard _ _ _ _ _ (p .put .ensures)))
 
 pub digit-spec : {M : Type 1} → statement M
 digit-spec =

@@ -1,7 +1,7 @@
 -- `text::line` meets its contract.
 -- Assumes nothing.
 use borrow.Author.Needs.{needs}
-use Rattle.text.proofs.Putting.{put-then}
+use Rattle.text.proofs.Putting.{heard, said, put-then}
 use Rattle.text.proofs.line.Statement.{statement}
 use Rattle.text.proofs.line.Tie as tie
 
@@ -21,7 +21,7 @@ returns : tie.Need-returns
 returns c =
     let p = c .before .before in
     let w = p .before .before .before .before .before in
-    put-then (w .word .ensures) (p .two-numbers .ensures)
+    said (put-then (heard _ _ _ _ _ (w .word .ensures)) (heard _ _ _ _ _ (p .two-numbers .ensures)))
 
 pub line-spec : {M : Type 1} → statement M
 line-spec =

@@ -2,7 +2,7 @@
 -- Assumes nothing.
 use borrow.Author.Needs.{needs}
 use Rattle.text.specs.Decimal.{decimal}
-use Rattle.text.proofs.Putting.{put-byte, put-then, put-length}
+use Rattle.text.proofs.Putting.{heard, said, put-byte, put-then, put-length}
 use Rattle.text.proofs.number.Statement.{statement}
 use Rattle.text.proofs.number.Tie as tie
 
@@ -53,10 +53,10 @@ returns c =
     let d3 = d4 .before .before .before .before in
     let d2 = d3 .before .before .before .before in
     let d1 = d2 .before .before .before .before in
-    put-then (put-then (put-then (put-then (put-then (put-then (put-then (put-then (put-then (d1 .digit .ensures) (d2 .digit2 .ensures)) (d3 .digit3 .ensures)) (d4 .digit4 .ensures)) (d5 .digit5 .ensures)) (d6 .digit6 .ensures)) (d7 .digit7 .ensures)) (d8 .digit8 .ensures)) (d9 .digit9 .ensures)) (put-byte (f .figure .ensures) (p .put .ensures))
+    said (put-then (put-then (put-then (put-then (put-then (put-then (put-then (put-then (put-then (d1 .digit .ensures) (d2 .digit2 .ensures)) (d3 .digit3 .ensures)) (d4 .digit4 .ensures)) (d5 .digit5 .ensures)) (d6 .digit6 .ensures)) (d7 .digit7 .ensures)) (d8 .digit8 .ensures)) (d9 .digit9 .ensures)) (put-byte (f .figure .ensures) (heard _ _ _ _ _ (p .put .ensures))))
 
 same-length : tie.Need-same-length
-same-length c = put-length (returns c)
+same-length c = put-length (heard _ _ _ _ _ (returns c))
 
 pub number-spec : {M : Type 1} → statement M
 number-spec =

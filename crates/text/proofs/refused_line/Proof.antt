@@ -4,7 +4,7 @@ use borrow.Author.Needs.{needs}
 use mathlib.Core.Path.{ap₂}
 use Prim.Native.Nat.{ℕ}
 use Rattle.text.specs.Lines.{atWord, pair}
-use Rattle.text.proofs.Putting.{put-then, put-same}
+use Rattle.text.proofs.Putting.{heard, said, put-then, put-same}
 use Rattle.text.proofs.refused_line.Statement.{statement}
 use Rattle.text.proofs.refused_line.Tie as tie
 
@@ -35,7 +35,7 @@ returns c =
     let p = t .before in
     let n = p .before .before in
     let w = n .before .before .before .before in
-    put-then (w .word .ensures) (put-same (ap₂ (λ (x y : ℕ). pair x atWord y) (n .number .ensures) (p .place .ensures)) (t .two-numbers .ensures))
+    said (put-then (heard _ _ _ _ _ (w .word .ensures)) (put-same (ap₂ (λ (x y : ℕ). pair x atWord y) (n .number .ensures) (p .place .ensures)) (heard _ _ _ _ _ (t .two-numbers .ensures))))
 
 pub refused-line-spec : {M : Type 1} → statement M
 refused-line-spec =

@@ -1,7 +1,7 @@
 -- `text::two_numbers` meets its contract.
 -- Assumes nothing.
 use borrow.Author.Needs.{needs}
-use Rattle.text.proofs.Putting.{put-then}
+use Rattle.text.proofs.Putting.{heard, said, put-then}
 use Rattle.text.proofs.two_numbers.Statement.{statement}
 use Rattle.text.proofs.two_numbers.Tie as tie
 
@@ -26,7 +26,7 @@ returns c =
     let y = p .before .before .before .before in
     let b = y .before .before .before .before in
     let x = b .before .before .before .before in
-    put-then (put-then (put-then (x .number .ensures) (b .word .ensures)) (y .number2 .ensures)) (p .put .ensures)
+    said (put-then (put-then (put-then (heard _ _ _ _ _ (x .number .ensures)) (heard _ _ _ _ _ (b .word .ensures))) (heard _ _ _ _ _ (y .number2 .ensures))) (heard _ _ _ _ _ (p .put .ensures)))
 
 pub two-numbers-spec : {M : Type 1} → statement M
 two-numbers-spec =

@@ -6,8 +6,8 @@ use Prim.Native.Nat.{_-_, _≤_}
 use native.Mathlib.Omega.{arith}
 use lib.ListN.{length, take}
 use lib.Seq.{take-all}
-use Rattle.text.specs.Putting.{Put}
-use Rattle.text.proofs.Putting.{put-none, put-next, put-same}
+use Rattle.text.specs.Devices.{Put}
+use Rattle.text.proofs.Putting.{heard, said, put-none, put-next, put-same}
 use Rattle.text.proofs.word.Statement.{statement}
 use Rattle.text.proofs.word.Tie as tie
 
@@ -37,7 +37,7 @@ loop-again c =
     let p = c .before .before in
     let l = p .before .before .before .before in
     let s = l .before .before .before in
-    (search needs, search needs, put-next (s .args .at) (s .args .bytes .now) (s .args .room .now) (l .loop .i) _ _ _ _ (search needs) (l .loop .inv .2) (p .put .ensures))
+    (search needs, search needs, put-next (s .args .at) (s .args .bytes .now) (s .args .room .now) (l .loop .i) _ _ _ _ (search needs) (l .loop .inv .2) (heard _ _ _ _ _ (p .put .ensures)))
 
 same-length : tie.Need-same-length Inv-loop μ-loop
 same-length c = c .before .loop .inv .1
@@ -46,7 +46,7 @@ returns : tie.Need-returns Inv-loop μ-loop
 returns c =
     let l = c .before in
     let s = l .before .before .before in
-    put-same (take-all (l .loop .i) (s .args .bytes .now) (search needs)) (l .loop .inv .2)
+    said (put-same (take-all (l .loop .i) (s .args .bytes .now) (search needs)) (l .loop .inv .2))
 
 pub word-spec : {M : Type 1} → statement M
 word-spec =
