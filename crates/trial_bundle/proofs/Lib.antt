@@ -1,2 +1,0 @@
--- What the proofs of the trials use.
-pub mod Parts
