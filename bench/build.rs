@@ -1,22 +1,22 @@
-//! Links the proved program's exports, unless only the tuned program is run.
-//! HEDRAVOS_EXPORTS may give the archive's path; otherwise it is target/staticlib/libexports.a, as tools/archive makes it.
+//! Links the proved program's library, unless only the tuned program is run.
+//! HEDRAVOS_LIBRARY may give the archive's path; otherwise it is target/library/libhedravos.a, as tools/library makes it.
 
 use std::env;
 use std::path::PathBuf;
 
 fn main() {
-    println!("cargo:rerun-if-env-changed=HEDRAVOS_EXPORTS");
+    println!("cargo:rerun-if-env-changed=HEDRAVOS_LIBRARY");
     if env::var_os("CARGO_FEATURE_BASELINE_ONLY").is_some() {
         return;
     }
     if env::var("CARGO_CFG_TARGET_ARCH").unwrap() != "x86_64" {
-        panic!("the proved program's archive is for x86-64; use --features baseline-only here");
+        panic!("the proved program is for x86-64, and under an emulator its time says nothing; use --features baseline-only here");
     }
     let archive = archive();
     println!("cargo:rerun-if-changed={}", archive.display());
     if !archive.is_file() {
         panic!(
-            "{} isn't there; run tools/archive, set HEDRAVOS_EXPORTS, or use --features baseline-only",
+            "{} isn't there; run tools/library, set HEDRAVOS_LIBRARY, or use --features baseline-only",
             archive.display()
         );
     }
@@ -28,9 +28,9 @@ fn main() {
 }
 
 fn archive() -> PathBuf {
-    if let Some(path) = env::var_os("HEDRAVOS_EXPORTS") {
+    if let Some(path) = env::var_os("HEDRAVOS_LIBRARY") {
         return PathBuf::from(path);
     }
     let here = PathBuf::from(env::var_os("CARGO_MANIFEST_DIR").unwrap());
-    here.join("../target/staticlib/libexports.a")
+    here.join("../target/library/libhedravos.a")
 }

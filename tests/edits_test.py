@@ -1,8 +1,6 @@
 """Tries tests/edits.py: on made-up edits and logs, each good or bad in one way, and on a small crate that the prover is asked about.
 
     python3 tests/edits_test.py
-
-Prints the cases that fail, and `N passed, M failed` as its last line.
 """
 
 import contextlib
@@ -13,8 +11,7 @@ import sys
 import tempfile
 
 import edits
-
-tally = {"passed": 0, "failed": 0}
+from tally import case, run
 
 SOURCE = """
 mod inner;
@@ -80,12 +77,6 @@ CONTRACTS = """
 | `eight()` | 8 | 9 | `a`, and `large`'s `c` |
 | `nine()` | 9 | 8 | `a`, `b` |
 """
-
-
-def case(name, right):
-    tally["passed" if right else "failed"] += 1
-    if not right:
-        print(f"failed: {name}")
 
 
 def quietly(work, *arguments):
@@ -287,12 +278,5 @@ def prover():
     case("harmless in another shape", "FAILED small/sum: the proof of eight no longer fits the code" in shown)
 
 
-def main():
-    for group in (programs_pass, harmless_fails, bad_form_fails, contracts, prover):
-        group()
-    print(f"{tally['passed']} passed, {tally['failed']} failed")
-    return 1 if tally["failed"] else 0
-
-
 if __name__ == "__main__":
-    sys.exit(main())
+    sys.exit(run(programs_pass, harmless_fails, bad_form_fails, contracts, prover))

@@ -1,32 +1,26 @@
-"""Tries tools/bundle_from_text and tools/bundle_to_text, there and back again, and tools/report.
+"""Tries tools/bundle_from_text and tools/bundle_to_text, there and back again: good and bad input, files, pipes, a full disk.
 
     python3 tests/tools_test.py
-
-Prints the cases that fail, and `N passed, M failed` as its last line.
 """
 
+import os
 import pathlib
 import random
+import signal
 import struct
 import subprocess
 import sys
 import tempfile
 
-ROOT = pathlib.Path(__file__).resolve().parent.parent
+from tally import ROOT, case, run
+
 MARK = 4294967295
-tally = {"passed": 0, "failed": 0}
+TEXT = "n 3\nm 2\nrequests 5 6 7\n"
 
 
-def case(name, right):
-    tally["passed" if right else "failed"] += 1
-    if not right:
-        print(f"failed: {name}")
-
-
-def tool(name, data, *arguments):
+def tool(name, data, *arguments, **more):
     """Status, output and message of a tool fed with these bytes."""
-    command = [sys.executable, str(ROOT / "tools" / name), *arguments]
-    done = subprocess.run(command, input=data, capture_output=True)
+    done = subprocess.run([str(ROOT / "tools" / name), *arguments], input=data, capture_output=True, **more)
     return done.returncode, done.stdout, done.stderr.decode()
 
 
@@ -47,6 +41,11 @@ def example():
     return words(2, 3, 2, 8, 5, 6, 7, 5, 8, 6, 5, 7, 8, *plan)
 
 
+def sentence(name, told):
+    """One line that begins with the tool's name, and no traceback."""
+    return told.startswith(f"{name}: ") and told.endswith("\n") and "Traceback" not in told
+
+
 def the_example():
     text = (ROOT / "examples" / "first.txt").read_text()
     bundle = (ROOT / "examples" / "first.bundle").read_bytes()
@@ -56,15 +55,6 @@ def the_example():
     status, shown, _ = to_text(bundle)
     case("the example to text", status == 0)
     case("the example there and back", from_text(shown.decode())[1] == bundle)
-
-
-def files_named():
-    bundle = ROOT / "examples" / "first.bundle"
-    text = ROOT / "examples" / "first.txt"
-    case("from a named file", tool("bundle_from_text", b"", str(text))[1] == example())
-    case("to text, a named file", tool("bundle_to_text", b"", str(bundle))[0] == 0)
-    case("no such file", tool("bundle_to_text", b"", "no-such-file")[0] == 1)
-    case("no argument", tool("bundle_from_text", b"")[0] == 2)
 
 
 def round_trips():
@@ -89,44 +79,72 @@ def round_trips():
 
 def texts_taken():
     bundle = words(2, 3, 2, 3, 5, 6, 7, 0)
-    case("any order, remarks, several lines", from_text(
-        "requests 5 # first\n\n  # remark\nm 2\nrequests 6 7\nn 3\n") == (0, bundle, ""))
+    for name, text in [
+        ("any order, remarks, several lines", "requests 5 # first\n\n  # remark\nm 2\nrequests 6 7\nn 3\n"),
+        ("one request on a line", "n 3\nm 2\nrequests\n5\n6\n7\n"),
+        ("one on a line, remarks between", "n 3\nm 2\nrequests\n5\n\n# remark\n6\n7 # last"),
+        ("commas", "n 3\nm 2\nrequests 5,6, 7\n"),
+        ("a comma ends a line", "n 3\nm 2\nrequests 5,\n6,\n7,\n"),
+        ("a comma behind a space", "n 3\nm 2\nrequests 5 ,6 , 7\n"),
+        ("a mark of byte order", "\ufeff" + TEXT),
+        ("line ends of two characters", TEXT.replace("\n", "\r\n")),
+        ("line ends of the other kind", TEXT.replace("\n", "\r")),
+        ("tabs and leading zeros", "n\t003\nm 2\nrequests 5\t" + "0" * 5000 + "6 7\n"),
+    ]:
+        case(f"text taken: {name}", from_text(text) == (0, bundle, ""), from_text(text)[2])
+    planned = words(2, 1, 1, 2, 5, 6, 2, MARK, 5)
+    case("a plan over lines", from_text("n 1\nm 1\nplan\n-\n5,\nrequests 5 6")[1] == planned)
     case("no requests", from_text("n 1\nm 1\nrequests\n")[1] == words(2, 1, 1, 0, 0))
     case("an empty plan", from_text("n 1\nm 1\nrequests\nplan\n")[1] == words(2, 1, 1, 0, 0))
 
 
 def texts_refused():
-    good = "n 3\nm 2\nrequests 5 6\n"
     for name, text, message in [
         ("no n", "m 2\nrequests 5\n", "no line for n"),
         ("no m", "n 2\nrequests 5\n", "no line for m"),
         ("no requests", "n 2\nm 2\n", "no line of requests"),
-        ("n twice", "n 2\n" + good, "line 2: n is given twice"),
+        ("n twice", "n 2\n" + TEXT, "line 2: n is given twice, first in line 1"),
         ("n without number", "n\nm 2\nrequests\n", "line 1: n takes one number"),
-        ("unknown word", good + "frames 3\n", "line 4: 'frames' isn't"),
-        ("numbers alone", good + "5 6\n", "line 4: '5' isn't"),
-        ("not a number", good + "requests 5x\n", "line 4: '5x' isn't a number"),
-        ("minus", good + "requests -5\n", "line 4: '-5' isn't a number"),
-        ("too large", good + "requests 4294967296\n", "isn't a number"),
-        ("very large", good + "requests " + "9" * 9000 + "\n", "isn't a number"),
-        ("other digits", good + "requests \u0665\n", "isn't a number"),
-        ("mark requested", good + "requests 4294967295\n", "is the mark"),
-        ("dash requested", good + "requests -\n", "'-' isn't a number"),
-        ("mark in plan by number", good + "plan - 4294967295\n", "is the mark"),
-        ("plan too short", good + "plan -\n", "has 1 words"),
-        ("plan without words", good + "plan\n", "has 0 words"),
-        ("plan too long", good + "plan - - -\n", "has 3 words"),
-        ("n is 0", "n 0\nm 2\nrequests\n", "refused 2 at 0"),
-        ("n is 257", "n 257\nm 2\nrequests\n", "refused 2 at 0"),
-        ("m is 0", "n 3\nm 0\nrequests\n", "refused 2 at 0"),
-        ("m above n", "n 3\nm 4\nrequests\n", "refused 12 at 8"),
-        ("8,001 requests", "n 3\nm 2\nrequests" + " 5" * 8001, "refused 3 at 0"),
+        ("unknown word", "frames 3\n" + TEXT, "line 1, word 1: 'frames' isn't"),
+        ("unknown word in a list", TEXT + "frames 3\n", "line 4, word 1: 'frames' isn't"),
+        ("numbers in no list", "n 3\nm 2\n5 6\n", "line 3, word 1: '5' isn't"),
+        ("numbers after n", "requests 5\nn 3\n6\nm 2\n", "line 3, word 1: '6' isn't"),
+        ("not a number", TEXT + "requests 5 6x\n", "line 4, word 3: '6x' isn't a number"),
+        ("minus", TEXT + "requests -5\n", "line 4, word 2: '-5' isn't a number"),
+        ("too large", TEXT + "requests 4294967296\n", "isn't a number from 0 to 4294967294"),
+        ("other digits", TEXT + "requests \u0665\n", "isn't a number"),
+        ("a comma too many", TEXT + "requests 5,,6\n", "line 4, word 3: there is a comma"),
+        ("a comma in front", TEXT + ",6\n", "line 4, word 1: there is a comma"),
+        ("commas alone", TEXT + "requests 5\n,\n", "line 5, word 1: there is a comma"),
+        ("semicolons", TEXT + "requests 5;6\n", "'5;6' isn't a number"),
+        ("mark requested", TEXT + "requests 4294967295\n", "line 4, word 2: 4294967295 is the mark"),
+        ("dash requested", TEXT + "requests -\n", "'-' isn't a number"),
+        ("mark in plan by number", TEXT + "plan - 4294967295\n", "line 4, word 3: 4294967295 is the mark"),
+        ("plan too short", TEXT + "plan -\n", "has 1 words"),
+        ("plan without words", TEXT + "plan\n", "has 0 words"),
+        ("plan too long", TEXT + "plan - - - -\n", "has 4 words"),
+        ("n is 0", "m 2\nn 0\nrequests\n", "line 2: refused 2 at 0: n is 0"),
+        ("n is 257", "n 257\nm 2\nrequests\n", "line 1: refused 2 at 0: n is 257"),
+        ("m is 0", "n 3\nm 0\nrequests\n", "line 2: refused 2 at 0: m is 0"),
+        ("m above n", "n 3\nm 4\nrequests\n", "line 2: refused 12 at 8"),
+        ("8,001 requests", "n 3\nm 2\nrequests" + " 5" * 8000 + "\n5\n6\n", "line 4: refused 3 at 0: there are 8002"),
         ("empty text", "", "no line for n"),
     ]:
         status, output, told = from_text(text)
-        case(f"text refused: {name}", status == 1 and output == b"" and message in told)
+        right = status == 1 and output == b"" and message in told and sentence("bundle_from_text", told)
+        case(f"text refused: {name}", right, told)
     status, output, told = tool("bundle_from_text", b"\xff\xfe", "-")
-    case("text refused: not text", (status, output) == (1, b"") and "isn't text" in told)
+    case("text refused: not text", (status, output) == (1, b"") and "isn't text in UTF-8" in told)
+
+
+def messages_are_short():
+    for name, word in [("a long number", "9" * 9000), ("a long word", "x" * 9000), ("zeros", "0" * 9000 + "x"), ("two bytes each", "\u00e4" * 9000)]:
+        told = from_text(TEXT + word)[2]
+        case(f"cut: {name}", "line 4, word 1" in told and len(told) < 150 and "..." in told, told[:200])
+    told = from_text(TEXT + "\x1b[31m\a")[2]
+    case("control characters are written out", "\\x1b[31m\\x07" in told and "\x1b" not in told)
+    status, output, told = tool("bundle_from_text", b"n 1\n" * 4194305, "-")
+    case("a text of 16 MiB and more", (status, output) == (1, b"") and "longer than" in told)
 
 
 def bundle_refused(name, data, number, place):
@@ -140,6 +158,7 @@ def bundles_refused():
         bundle_refused(f"cut at {cut}", example()[:cut], 9, cut // 4 * 4)
     for name, data, number, place in [
         ("sizes count", words(3, 3, 2, 0, 0), 10, 0),
+        ("all ones", b"\xff" * 8, 10, 0),
         ("T", words(2, 3, 2, 8001), 10, 12),
         ("T very large", words(2, 3, 2, MARK), 10, 12),
         ("plan count", words(2, 3, 2, 1, 5, 2, 1, 1), 10, 20),
@@ -153,50 +172,73 @@ def bundles_refused():
         bundle_refused(name, data, number, place)
 
 
-def report(name, data, lines):
-    """The report program on a file of these bytes."""
-    with tempfile.NamedTemporaryFile() as file:
-        file.write(data)
-        file.flush()
-        done = subprocess.run([str(ROOT / "tools" / "report"), file.name], capture_output=True)
-    text = "".join(line + "\n" for line in lines).encode()
-    case(f"report: {name}", (done.returncode, done.stdout) == (0, text))
+def wrong_files():
+    for name, arguments, message in [
+        ("no such file", ["no-such-file"], "there is no file no-such-file"),
+        ("a directory", [str(ROOT / "examples")], "is a directory"),
+        ("a file that can't be read", ["/proc/self/mem"], "can't be read"),
+        ("too many words", ["a", "b", "c"], "wrong use"),
+    ]:
+        for tool_name in ("bundle_from_text", "bundle_to_text"):
+            status, output, told = tool(tool_name, b"", *arguments)
+            right = status == 2 and output == b"" and message in told and sentence(tool_name, told)
+            case(f"{tool_name}: {name}", right, told)
+    case("no word", tool("bundle_from_text", b"")[0] == 2)
+    status, output, told = tool("bundle_to_text", b"", str(ROOT / "examples" / "first.txt"))
+    case("a text for a bundle", (status, output) == (2, b"") and "tools/bundle_from_text" in told)
+    status, output, told = tool("bundle_from_text", example(), "-")
+    case("a bundle for a text", (status, output) == (2, b"") and "tools/bundle_to_text" in told)
+    for tool_name in ("report", "bundle_from_text", "bundle_to_text", "library"):
+        status, output, told = tool(tool_name, b"", "--help")
+        case(f"{tool_name} --help", status == 0 and f"    tools/{tool_name}".encode() in output and told == "")
 
 
-def reports():
-    head = ["requests 8", "lru 3 6", "fifo 3 5", "min 3 5", "lru2 3 6", "min 2 6"]
-    report("the example", example(), head + ["claim 2 8"])
-    report("a broken entry", example()[:60] + words(9) + example()[64:], head + ["claim refused 7 at 2"])
-    report("no plan", example()[:48] + words(0), head + ["claim none"])
-    none = ["requests 0", "lru 256 0", "fifo 256 0", "min 256 0", "lru2 256 0", "min 1 0", "claim none"]
-    report("no requests", words(2, 256, 1, 0, 0), none)
-    report("an empty file", b"", ["refused 9 at 0"])
-    report("a cut file", example()[:83], ["refused 9 at 80"])
-    report("a byte too many", example() + b"\0", ["refused 11 at 84"])
-    largest = words(2, 256, 256, 8000, *range(8000), 8000, *([MARK] * 256), *range(7744))
-    counts = [f"{rule} 256 8000" for rule in ("lru", "fifo", "min", "lru2", "min", "claim")]
-    report("the largest file", largest, ["requests 8000"] + counts)
-    report("a byte more than the largest", largest + b"\0", ["refused 11 at 64020"])
-    for length in (65535, 65536, 65537, 200000):
-        report(f"{length} bytes", largest + bytes(length - 64020), ["refused 11 at 64020"])
-    missing = subprocess.run([str(ROOT / "tools" / "report"), "no-such-file"], capture_output=True)
-    case("report: no such file", missing.returncode != 0 and missing.stdout == b"")
+def files_written():
+    with tempfile.TemporaryDirectory() as folder:
+        text, bundle, link = (pathlib.Path(folder) / name for name in ("a.txt", "a.bundle", "link"))
+        text.write_text(TEXT)
+        made = words(2, 3, 2, 3, 5, 6, 7, 0)
+        case("a file is written", tool("bundle_from_text", b"", str(text), str(bundle)) == (0, b"", "") and bundle.read_bytes() == made)
+        case("its mode is a file's", bundle.stat().st_mode & 0o777 == text.stat().st_mode & 0o777)
+        bundle.chmod(0o600)
+        case("a file is written again", tool("bundle_from_text", b"", str(text), str(bundle))[0] == 0 and bundle.stat().st_mode & 0o777 == 0o600)
+        back = pathlib.Path(folder) / "b.txt"
+        case("a text is written", tool("bundle_to_text", b"", str(bundle), str(back))[0] == 0 and back.read_text() == TEXT)
+        link.symlink_to(text)
+        for name in (text, link, pathlib.Path(folder) / "." / "a.txt"):
+            status, _, told = tool("bundle_from_text", b"", str(text), str(name))
+            case("the input is kept", status == 2 and "is what is read" in told and text.read_text() == TEXT)
+        with open(text, "rb") as file, open(text, "ab") as end:
+            done = subprocess.run([str(ROOT / "tools/bundle_from_text"), "-", str(text)], stdin=file, capture_output=True)
+            case("the input on a pipe is kept", done.returncode == 2 and text.read_text() == TEXT)
+            done = subprocess.run([str(ROOT / "tools/bundle_from_text"), str(text)], stdout=end, stderr=subprocess.PIPE)
+            case("the input as output is kept", done.returncode == 2 and text.read_text() == TEXT)
+        old = bundle.read_bytes()
+        text.write_text("n 300\nm 1\nrequests")
+        case("a refused text keeps the old bundle", tool("bundle_from_text", b"", str(text), str(bundle))[0] == 1 and bundle.read_bytes() == old)
+        status, _, told = tool("bundle_from_text", TEXT.encode(), "-", str(pathlib.Path(folder) / "no" / "where"))
+        case("a folder that isn't there", status == 2 and "can't be written: No such file" in told)
+        case("nothing is left over", sorted(os.listdir(folder)) == ["a.bundle", "a.txt", "b.txt", "link"])
 
 
-def main():
-    for group in (
-        the_example,
-        files_named,
-        round_trips,
-        texts_taken,
-        texts_refused,
-        bundles_refused,
-        reports,
-    ):
-        group()
-    print(f"{tally['passed']} passed, {tally['failed']} failed")
-    return 1 if tally["failed"] else 0
+def outputs_that_fail():
+    for name, data in (("bundle_from_text", TEXT.encode()), ("bundle_to_text", example())):
+        command = [str(ROOT / "tools" / name), "-"]
+        with open("/dev/full", "wb") as full:
+            done = subprocess.run(command, input=data, stdout=full, stderr=subprocess.PIPE)
+        case(f"{name}: a full disk", done.returncode == 2 and sentence(name, done.stderr.decode()) and b"No space left" in done.stderr)
+        status, _, told = tool(name, data, "-", "/dev/full")
+        case(f"{name}: a full disk by name", status == 2 and "/dev/full can't be written: No space left" in told)
+        out, into = os.pipe()
+        os.close(out)
+        done = subprocess.run(command, input=data, stdout=into, stderr=subprocess.PIPE)
+        os.close(into)
+        case(f"{name}: a closed pipe", (done.returncode, done.stderr) == (-signal.SIGPIPE, b""))
+        done = subprocess.run(["sh", "-c", f"exec {command[0]} - >&-"], input=data, capture_output=True)
+        case(f"{name}: no output at all", done.returncode == 2 and b"can't be written" in done.stderr)
+        done = subprocess.run(["sh", "-c", f"exec {command[0]} no-such-file 2>&-"], input=data, capture_output=True)
+        case(f"{name}: nowhere to tell", (done.returncode, done.stdout) == (2, b""))
 
 
 if __name__ == "__main__":
-    sys.exit(main())
+    sys.exit(run(the_example, round_trips, texts_taken, texts_refused, messages_are_short, bundles_refused, wrong_files, files_written, outputs_that_fail))

@@ -1,71 +1,128 @@
-"""The bundle file and its text form, for bundle_from_text and bundle_to_text.
+"""The bundle file and its text form, for the commands of this folder.
 
-Document 01's limits and order of refusals; numbers and places are the document's.
+Limits, refusals and their order are those of docs/REFERENCE.md.
 """
+
+from command import Refused, shown
 
 MARK = 4294967295
 MOST_REQUESTS = 8000
 MOST_FRAMES = 256
+MOST_TEXT = 16777216  # bytes of a text that are read
 
+TEXT_FORM = """\
+The text has lines of these kinds, in any order:
 
-class Refused(Exception):
-    """Input that can't be turned; its words say why."""
+    n 3                    frames of the four rules
+    m 2                    frames of the plan
+    requests 5 6 7 5       pages, 0 to 4294967294
+    plan - - 5 6           pages, or dashes for none; may be left out
+    # a remark             up to the end of the line
+
+A list goes on over further lines, with or without its name in front, so that one
+request on a line works too; commas may stand between words. A mark of byte order
+in front is passed over."""
 
 
 # ---- The text form ----
 
 
-def parse_text(text):
-    """Answers n, m, requests and plan (empty where none came) of a text."""
-    sizes = {}
-    lists = {"requests": [], "plan": []}
-    seen = set()
-    for number, line in enumerate(text.splitlines(), 1):
-        parts = line.split("#")[0].split()
-        if not parts:
-            continue
-        name, rest = parts[0], parts[1:]
-        where = f"line {number}"
+class Text:
+    """What was read of a text so far, and where."""
+
+    def __init__(self):
+        self.sizes = {}
+        self.lists = {}
+        self.line_of = {}
+        self.open = None  # the list that a line without a name goes on with
+
+    def take(self, line, words):
+        name = words[0]
         if name in ("n", "m"):
-            if name in sizes:
-                raise Refused(f"{where}: {name} is given twice")
-            if len(rest) != 1:
-                raise Refused(f"{where}: {name} takes one number")
-            sizes[name] = parse_number(rest[0], where)
-        elif name in lists:
-            seen.add(name)
-            lists[name] += [parse_word(name, word, where) for word in rest]
+            self.open = None
+            self.take_size(line, name, words[1:])
+        elif name in ("requests", "plan"):
+            self.open = name
+            self.lists.setdefault(name, [])
+            self.take_words(line, words[1:], 2)
+        elif self.open:
+            self.take_words(line, words, 1)
         else:
-            raise Refused(f"{where}: '{name}' isn't n, m, requests or plan")
-    for name in ("n", "m"):
-        if name not in sizes:
-            raise Refused(f"there is no line for {name}")
-    if "requests" not in seen:
-        raise Refused("there is no line of requests")
-    if "plan" in seen and len(lists["plan"]) != len(lists["requests"]):
-        raise Refused(
-            f"the plan has {len(lists['plan'])} words, "
-            f"but there are {len(lists['requests'])} requests"
-        )
-    return sizes["n"], sizes["m"], lists["requests"], lists["plan"]
+            raise Refused(f"line {line}, word 1: '{shown(name)}' isn't n, m, requests or plan, and no list is begun")
+
+    def take_size(self, line, name, rest):
+        if name in self.sizes:
+            raise Refused(f"line {line}: {name} is given twice, first in line {self.line_of[name]}")
+        if len(rest) != 1:
+            raise Refused(f"line {line}: {name} takes one number")
+        self.sizes[name] = parse_number(rest[0], line, 2)
+        self.line_of[name] = line
+
+    def take_words(self, line, words, first):
+        into = self.lists[self.open]
+        for place, word in enumerate(words, first):
+            into.append(parse_word(self.open, word, line, place))
+            if len(into) == MOST_REQUESTS + 1:
+                self.line_of[self.open] = line
+
+    def whole(self):
+        """n, m, requests and plan (empty where none came)."""
+        for name in ("n", "m"):
+            if name not in self.sizes:
+                raise Refused(f"there is no line for {name}")
+        if "requests" not in self.lists:
+            raise Refused("there is no line of requests")
+        requests = self.lists["requests"]
+        plan = self.lists.get("plan", [])
+        if "plan" in self.lists and len(plan) != len(requests):
+            raise Refused(f"the plan has {len(plan)} words, but there are {len(requests)} requests")
+        return self.sizes["n"], self.sizes["m"], requests, plan
 
 
-def parse_number(word, where):
-    if not (word.isascii() and word.isdigit()) or len(word) > 10:
-        raise Refused(f"{where}: '{word}' isn't a number from 0 to {MARK}")
-    number = int(word)
-    if number > MARK:
-        raise Refused(f"{where}: '{word}' isn't a number from 0 to {MARK}")
-    return number
+def parse_text(text):
+    """Answers n, m, requests and plan of a text, as a bundle can have them."""
+    read = Text()
+    lines = text.removeprefix("\ufeff").replace("\r\n", "\n").replace("\r", "\n").split("\n")
+    for number, line in enumerate(lines, 1):
+        words = split_line(line.split("#")[0], number)
+        if words:
+            read.take(number, words)
+    whole = read.whole()
+    try:
+        judge_values(*whole)
+    except Refused as refusal:
+        line = read.line_of.get(refusal.about)
+        raise Refused(f"line {line}: {refusal}" if line else str(refusal)) from None
+    return whole
 
 
-def parse_word(name, word, where):
-    """A page; in a plan also the mark, printed as a dash."""
+def split_line(line, number):
+    """The line's words. A comma stands behind a word; where one stands alone, a word is missing."""
+    words = []
+    may = False  # whether a comma may come
+    for word in line.replace(",", " , ").split():
+        if word == "," and not may:
+            raise Refused(f"line {number}, word {len(words) + 1}: there is a comma where a word should be")
+        if word != ",":
+            words.append(word)
+        may = word != ","
+    return words
+
+
+def parse_number(word, line, place):
+    digits = word.lstrip("0") or "0"
+    if word.isascii() and word.isdigit() and len(digits) <= 10 and int(digits) <= MARK:
+        return int(digits)
+    raise Refused(f"line {line}, word {place}: '{shown(word)}' isn't a number from 0 to {MARK - 1}")
+
+
+def parse_word(name, word, line, place):
+    """A page; in a plan also the mark, written as a dash."""
     if name == "plan" and word == "-":
         return MARK
-    number = parse_number(word, where)
+    number = parse_number(word, line, place)
     if number == MARK:
-        raise Refused(f"{where}: {MARK} is the mark, not a page")
+        raise Refused(f"line {line}, word {place}: {MARK} is the mark, not a page")
     return number
 
 
@@ -79,70 +136,74 @@ def print_text(n, m, requests, plan):
 
 def print_list(name, words):
     """Sixteen words to a line; a list without words still has its line."""
-    shown = ["-" if word == MARK else str(word) for word in words]
-    starts = range(0, max(len(shown), 1), 16)
-    return [" ".join([name] + shown[start:start + 16]) for start in starts]
+    texts = ["-" if word == MARK else str(word) for word in words]
+    starts = range(0, max(len(texts), 1), 16)
+    return [" ".join([name] + texts[start:start + 16]) for start in starts]
 
 
 # ---- The bundle file ----
 
 
-def write_bundle(n, m, requests, plan):
+class RefusedByNumber(Refused):
+    """A refusal of a bundle, with its number and place; `about` names the part that is wrong."""
+
+    def __init__(self, number, place, words, about=None):
+        super().__init__(f"refused {number} at {place}: {words}")
+        self.line = f"refused {number} at {place}"
+        self.words = words
+        self.about = about
+
+
+def judge_values(n, m, requests, plan):
     """Refuses in the writer's order: 2, 12, 3, 4, 10."""
     for name, size in (("n", n), ("m", m)):
         if not 1 <= size <= MOST_FRAMES:
-            raise Refused(f"refused 2 at 0: {name} is {size}, not 1 to 256")
+            raise RefusedByNumber(2, 0, f"{name} is {size}, not 1 to 256", name)
     if m > n:
-        raise Refused(f"refused 12 at 8: m is {m}, above n, which is {n}")
+        raise RefusedByNumber(12, 8, f"m is {m}, above n, which is {n}", "m")
     if len(requests) > MOST_REQUESTS:
-        raise Refused(f"refused 3 at 0: {len(requests)} requests, above 8000")
+        raise RefusedByNumber(3, 0, f"there are {len(requests)} requests, above 8000", "requests")
     if MARK in requests:
-        moment = requests.index(MARK)
-        raise Refused(f"refused 4 at {moment}: the request is the mark")
+        raise RefusedByNumber(4, requests.index(MARK), "the request is the mark", "requests")
     if len(plan) not in (0, len(requests)):
-        raise Refused("refused 10 at 0: the plan's length isn't 0 or T")
+        raise RefusedByNumber(10, 0, "the plan's length isn't 0 or that of the requests", "plan")
+
+
+def write_bundle(n, m, requests, plan):
+    judge_values(n, m, requests, plan)
     words = [2, n, m, len(requests)] + requests + [len(plan)] + plan
     return b"".join(word.to_bytes(4, "little") for word in words)
 
 
 def read_bundle(data):
     """Refuses in the reader's order: 9, 10 and 11 front to back, then 2, 12, 4."""
-    sizes, place = read_section(data, 0, lambda count: count == 2, "sizes")
-    start = place
-    requests, place = read_section(
-        data, place, lambda count: count <= MOST_REQUESTS, "requests"
-    )
-    plan, place = read_section(
-        data, place, lambda count: count in (0, len(requests)), "plan"
-    )
+    (n, m), place = read_section(data, 0, lambda count: count == 2, "a bundle begins with the count 2 of its sizes")
+    requests, place = read_section(data, place, lambda count: count <= MOST_REQUESTS, "there may be 8000 requests at most")
+    allowed = (0, len(requests))
+    plan, place = read_section(data, place, lambda count: count in allowed, f"a plan has 0 words or {len(requests)}, as there are requests")
     if place < len(data):
-        raise Refused(f"refused 11 at {place}: bytes after the last section")
-    n, m = sizes
+        raise RefusedByNumber(11, place, "there are bytes behind the plan, where a bundle ends")
     for name, size, byte in (("n", n, 4), ("m", m, 8)):
         if not 1 <= size <= MOST_FRAMES:
-            raise Refused(f"refused 2 at {byte}: {name} is {size}, not 1 to 256")
+            raise RefusedByNumber(2, byte, f"{name} is {size}, not 1 to 256")
     if m > n:
-        raise Refused(f"refused 12 at 8: m is {m}, above n, which is {n}")
+        raise RefusedByNumber(12, 8, f"m is {m}, above n, which is {n}")
     if MARK in requests:
-        byte = start + 4 + 4 * requests.index(MARK)
-        raise Refused(f"refused 4 at {byte}: a request is the mark")
+        moment = requests.index(MARK)
+        raise RefusedByNumber(4, 16 + 4 * moment, f"the request at moment {moment} is the mark, {MARK}, which is no page")
     return n, m, requests, plan
 
 
-def read_section(data, place, allowed, name):
+def read_section(data, place, allowed, rule):
     """The section's words, and the place after them."""
     count = read_word(data, place)
     if not allowed(count):
-        raise Refused(f"refused 10 at {place}: {name} can't have count {count}")
-    place += 4
-    words = []
-    for _ in range(count):
-        words.append(read_word(data, place))
-        place += 4
-    return words, place
+        raise RefusedByNumber(10, place, f"the count is {count}, but {rule}")
+    words = [read_word(data, place + 4 + 4 * i) for i in range(count)]
+    return words, place + 4 + 4 * count
 
 
 def read_word(data, place):
     if place + 4 > len(data):
-        raise Refused(f"refused 9 at {place}: the file ends inside a count or section")
+        raise RefusedByNumber(9, place, f"the file ends after {len(data)} bytes, before this word is whole")
     return int.from_bytes(data[place:place + 4], "little")

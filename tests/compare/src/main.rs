@@ -13,8 +13,6 @@ mod mirror;
 mod record_cases;
 #[cfg(feature = "records")]
 mod records;
-#[cfg(all(not(feature = "self-check"), not(target_arch = "x86_64")))]
-mod remote;
 
 use lent::Tally;
 use std::io::Write;

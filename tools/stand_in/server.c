@@ -1,49 +1,39 @@
-// The proved program for x86-64 behind two pipes, for a comparison that runs on another machine.
+// The proved library for x86-64 behind a socket, for callers on another machine; client.c asks it.
 // A call is a head, then its numbers, then for each list its bytes, the bytes of one element and whether it is lent to
 // be written, all as words; behind them comes what the lists hold. An answer is a head and what the written lists hold.
 
-typedef unsigned char u8;
-typedef unsigned int u32;
-typedef __SIZE_TYPE__ size;
+#include "../../include/hedravos.h"
 
-// The kit's compiler comes without headers.
+typedef uint8_t u8;
+typedef uint32_t u32;
+typedef size_t size;
+
+// The kit's compiler comes without the C library's headers.
 long read(int file, void *to, size bytes);
 long write(int file, const void *from, size bytes);
+void *realloc(void *old, size bytes);
 void *memcpy(void *to, const void *from, size bytes);
 void *memset(void *to, int value, size bytes);
 int memcmp(const void *one, const void *other, size bytes);
 int strcmp(const char *one, const char *other);
 
-void hedravos_count(u32, u32, const u32 *, size, u32 *, size);
-void hedravos_plan(u32, u32, const u32 *, size, u32 *, size, u32 *, size);
-void hedravos_check(u32, const u32 *, size, const u32 *, size, u32 *, size);
-void hedravos_better(u32, const u32 *, size, const u32 *, size, const u32 *, size, u32 *, size);
-void hedravos_better_words(u32, const u32 *, size, const u32 *, size, const u32 *, size, u32 *, size, u32 *, size);
-void hedravos_fresh(u32, u32, u32 *, size, u32 *, size);
-void hedravos_sound(const u32 *, size, u32 *, size);
-void hedravos_feed(const u32 *, size, u32, u32 *, size, u32 *, size);
-void hedravos_feed_own(u32 *, size, u32, u32 *, size);
-void hedravos_read(const u8 *, size, u32 *, size, u32 *, size, u32 *, size);
-void hedravos_write(u32, u32, const u32 *, size, const u32 *, size, u8 *, size, u32 *, size);
-void hedravos_report(const u8 *, size, u8 *, size, u32 *, size);
-
-enum { ROOM = 1 << 22, GUARD = 64, LISTS = 5 };
+enum { FIRST = 1 << 16, GUARD = 64, LISTS = 5 };
 
 // The bytes in all come first, and a function's name ends in zeros.
-static struct {
+static struct call {
     u32 bytes;
     char function[16];
     u32 numbers;
     u32 lists;
-    u32 rest[ROOM / 4];
-} call;
+    u32 rest[];
+} *call;
 
 // Touched is 0, or which list, counted from 1, was changed where it may not be.
-static struct {
+static struct answer {
     u32 bytes;
     u32 touched;
-    u8 rest[ROOM];
-} answer;
+    u8 rest[];
+} *answer;
 
 static struct list {
     void *start;
@@ -53,27 +43,39 @@ static struct list {
     const u8 *sent;
 } lists[LISTS];
 
-// Room for the lists of any call, each with its guards and begun at a whole word.
-static u32 lent[(ROOM + LISTS * (2 * GUARD + 4)) / 4];
+// Room for the lists of the call, each with its guards and begun at a whole word.
+static u8 *lent;
 static u8 guard[GUARD];
 
-// Reads a whole call; 0 where there is none, or none that fits.
+// Room for a call of so many bytes, for its answer and for its lists between guards.
+static int make_room(size bytes) {
+    call = realloc(call, bytes);
+    answer = realloc(answer, sizeof *answer + bytes);
+    lent = realloc(lent, bytes + LISTS * (2 * GUARD + sizeof(u32)));
+    return call && answer && lent;
+}
+
+// Reads a whole call; 0 where there is none.
 static int take_call(void) {
+    static size room;
     size have = 0;
+    size wanted = room > FIRST ? room : FIRST;
     do {
-        long more = read(0, (u8 *)&call + have, sizeof call - have);
+        if (wanted > room && !make_room(room = wanted)) return 0;
+        long more = read(0, (u8 *)call + have, room - have);
         if (more <= 0) return 0;
         have += more;
-    } while (have < 4 || have < call.bytes);
-    return have == call.bytes && call.lists <= LISTS;
+        if (have >= sizeof call->bytes) wanted = call->bytes;
+    } while (have < sizeof *call || have < wanted);
+    return have == wanted && call->lists <= LISTS;
 }
 
 // Copies each list to a place of its own, with guards on both sides.
 static void lend(void) {
-    const u32 *about = call.rest + call.numbers;
-    const u8 *sent = (const u8 *)(about + 3 * call.lists);
-    u8 *place = (u8 *)lent;
-    for (u32 i = 0; i < call.lists; i++, about += 3) {
+    const u32 *about = call->rest + call->numbers;
+    const u8 *sent = (const u8 *)(about + 3 * call->lists);
+    u8 *place = lent;
+    for (u32 i = 0; i < call->lists; i++, about += 3) {
         u32 bytes = about[0];
         lists[i] = (struct list){place + GUARD, bytes / about[1], bytes, about[2], sent};
         memcpy(place, guard, GUARD);
@@ -84,9 +86,9 @@ static void lend(void) {
     }
 }
 
-static int is(const char *function) { return strcmp(call.function, function) == 0; }
+static int is(const char *function) { return strcmp(call->function, function) == 0; }
 
-#define NUMBER(i) call.rest[i]
+#define NUMBER(i) call->rest[i]
 #define LIST(i) lists[i].start, lists[i].length
 
 // Whether there is such a function.
@@ -114,20 +116,20 @@ static int touched(const struct list *list) {
 }
 
 static void fill_answer(void) {
-    u8 *place = answer.rest;
-    answer.touched = 0;
-    for (u32 i = 0; i < call.lists; i++) {
-        if (answer.touched == 0 && touched(&lists[i])) answer.touched = i + 1;
+    u8 *place = answer->rest;
+    answer->touched = 0;
+    for (u32 i = 0; i < call->lists; i++) {
+        if (answer->touched == 0 && touched(&lists[i])) answer->touched = i + 1;
         if (!lists[i].written) continue;
         memcpy(place, lists[i].start, lists[i].bytes);
         place += lists[i].bytes;
     }
-    answer.bytes = place - (u8 *)&answer;
+    answer->bytes = place - (u8 *)answer;
 }
 
 static int give_answer(void) {
-    for (size gone = 0; gone < answer.bytes;) {
-        long more = write(1, (u8 *)&answer + gone, answer.bytes - gone);
+    for (size gone = 0; gone < answer->bytes;) {
+        long more = write(1, (u8 *)answer + gone, answer->bytes - gone);
         if (more <= 0) return 0;
         gone += more;
     }

@@ -1,0 +1,228 @@
+"""Tries what a newcomer and a caller in another language get: the header against the code, README's and the reference's examples, the example in C.
+
+    python3 tests/callers_test.py
+
+The library (tools/library) is made first where it isn't.
+"""
+
+import ctypes
+import pathlib
+import re
+import shlex
+import shutil
+import subprocess
+import sys
+import tempfile
+
+from tally import ROOT, case, run
+from tools_test import MARK, example
+
+HEADER = (ROOT / "include/hedravos.h").read_text()
+REFERENCE = (ROOT / "docs/REFERENCE.md").read_text()
+README = (ROOT / "README.md").read_text()
+LIBRARY = ROOT / "target/library"
+TYPES = {
+    "u32": ["uint32_t {}"],
+    "&[u32]": ["const uint32_t *{}", "size_t {}_length"],
+    "&mut [u32]": ["uint32_t *{}", "size_t {}_length"],
+    "&[u8]": ["const uint8_t *{}", "size_t {}_length"],
+    "&mut [u8]": ["uint8_t *{}", "size_t {}_length"],
+}
+
+
+def code(name):
+    return (ROOT / "crates" / name).read_text()
+
+
+def blocks(text):
+    """Each fenced block: its kind, and its text."""
+    return re.findall(r"^```(\w*)\n(.*?)^```$", text, re.M | re.S)
+
+
+def table_under(heading):
+    """The rows of the first table under a heading of the reference, as cells."""
+    part = REFERENCE.split(f"\n## {heading}\n")[1].split("\n## ")[0]
+    first = re.search(r"(^\|.*\n)+", part, re.M)[0]
+    return [[cell.strip() for cell in row.strip("|").split("|")] for row in first.splitlines()[2:]]
+
+
+# ---- The header and the code ----
+
+
+def exported():
+    """The functions that the crates export, as C declares them."""
+    found = {}
+    for source in sorted((ROOT / "crates").glob("exports_*/src/lib.rt")):
+        for name, lists in re.findall(r'pub extern "C" fn (\w+)(?:<[^>]*>)?\(([^)]*)\)', source.read_text()):
+            parts = [part.strip().replace("'a ", "").split(": ") for part in lists.split(",") if part.strip()]
+            found[name] = [text.format(word) for word, kind in parts for text in TYPES[kind]]
+    return found
+
+
+def declared():
+    """The functions of the header."""
+    plain = re.sub(r"/\*.*?\*/", "", HEADER, flags=re.S)
+    return {name: [" ".join(word.split()) for word in lists.split(",")] for name, lists in re.findall(r"void (\w+)\(([^)]*)\);", plain)}
+
+
+def constants():
+    return {name: int(value) for name, value in re.findall(r"HEDRAVOS_(\w+) = (\d+)", HEADER)}
+
+
+def upper(name):
+    """A case of an enum as the header writes it."""
+    return re.sub(r"(?<=[a-z0-9])(?=[A-Z])", "_", name).upper()
+
+
+def the_header():
+    case("the header has every exported function", exported() == declared() and len(declared()) == 12, str(set(exported()) ^ set(declared())))
+    numbers = constants()
+    rows = re.findall(r"^table \(?(\w+).* = row (\d+) ", code("paging/specs/Refusals.antt"), re.M)
+    case("the table has twelve refusals", len(rows) == 12)
+    for name, number in rows:
+        case(f"the header's {name}", numbers.pop(upper(name), None) == int(number))
+    for number, name in re.findall(r"\(eqb number (\d)\) \(Is (\w+)\)", code("paging/specs/Rules.antt")):
+        case(f"the header's rule {name}", numbers.pop(name.upper(), None) == int(number))
+    for name, kind in re.findall(r"^replyNumbers \(?(\w+).*kind = (\d)", code("cache/specs/Feed.antt"), re.M):
+        case(f"the header's kind {name}", numbers.pop(name.upper(), None) == int(kind))
+    limits = dict(re.findall(r"pub const (\w+): \w+ = (\d+);", code("calls/src/lib.rt")))
+    frames, requests = int(limits["FRAMES"]), int(limits["REQUESTS"])
+    rest = {"FRAMES": frames, "REQUESTS": requests, "RECORD_WORDS": 4 + 4 * frames, "FILE_BYTES": 4 * (2 + 3 + 2 * requests), "REPORT_BYTES": 256}
+    case("the header's limits, and nothing else", numbers == rest, str(numbers))
+    case("the header's mark", f"HEDRAVOS_MARK UINT32_C({MARK})" in HEADER and f"MARK: u32 = {MARK};" in code("paging/src/lib.rt"))
+
+
+# ---- The reference ----
+
+
+def refusals_told(text):
+    """The numbers of a line of refusals, in order."""
+    first = re.sub(r"\([^)]*\)", "", text).split(".")[0].split(";")[0].split(":")[0]
+    return [int(number) for number in re.findall(r"\d+", first)]
+
+
+def the_tables():
+    rows = table_under("Refusals")
+    told = {cells[1].strip("`"): int(cells[0]) for cells in rows}
+    names = {name: number for name, number in constants().items() if name in told}
+    case("the reference has the header's refusals", told == names and len(rows) == 12)
+    case("each with a sentence in every column", all(len(cells) == 5 and all(cells) for cells in rows))
+    comments = re.findall(r"/\*((?:(?!\*/).)*)\*/\s*void (\w+)\(", HEADER, re.S)
+    in_header = {name: refusals_told(text.split("Refusals:")[1]) if "Refusals:" in text else [] for text, name in comments}
+    services = REFERENCE.split("\n## Services\n")[1].split("\n## ")[0]
+    in_reference = {}
+    for line in services.splitlines():
+        function = re.search(r"`(hedravos_\w+)`", line)
+        if function:
+            name = function[1]
+        if line.startswith("- Refusals:"):
+            in_reference[name] = refusals_told(line.split(":", 1)[1])
+    for name in declared():
+        case(f"the refusals of {name}", in_header.get(name) == in_reference.get(name, None), f"{in_header.get(name)} {in_reference.get(name)}")
+    limits = " ".join(cells[1] for cells in table_under("Limits")).replace(",", "")
+    case("the reference's limits", all(str(constants()[name]) in limits for name in ("FRAMES", "REQUESTS", "RECORD_WORDS", "FILE_BYTES", "REPORT_BYTES")))
+
+
+def the_examples():
+    library = ctypes.CDLL(str(LIBRARY / "libhedravos.so"))
+    rules = {cells[1]: int(cells[0]) for cells in table_under("The four rules")}
+    requests = [5, 6, 7, 5, 8, 6, 5, 7]
+    rows = re.findall(r"^\| (\S+) \| ((?:\S ){8})\| (\d) \|$", REFERENCE, re.M)
+    case("a plan for each rule", [row[0] for row in rows] == list(rules))
+    for name, plan, faults in rows:
+        words = [MARK if word == "-" else int(word) for word in plan.split()]
+        case(f"the plan of {name}", planned(library, rules[name], 3, requests) == (int(faults), words))
+    more = [1, 2, 3, 4, 1, 2, 5, 1, 2, 3, 4, 5]
+    case("more frames, more faults", [planned(library, 2, n, more)[0] for n in (3, 4)] == [9, 10])
+    text = next(text for kind, text in blocks(REFERENCE) if text.startswith("# a remark"))
+    done = subprocess.run([str(ROOT / "tools/bundle_from_text"), "-"], input=text.encode(), capture_output=True)
+    case("the text form", done.stdout == example())
+
+
+def planned(library, rule, n, requests):
+    trace, plan, answer = ((ctypes.c_uint32 * length)() for length in (len(requests), len(requests), 3))
+    trace[:] = requests
+    lists = [word for one in (trace, plan, answer) for word in (one, ctypes.c_size_t(len(one)))]
+    library.hedravos_plan(ctypes.c_uint32(rule), ctypes.c_uint32(n), *lists)
+    return answer[2], list(plan)
+
+
+def the_lines():
+    """Commands and programs of README and of the reference, each with the output that stands behind it."""
+    found = blocks(REFERENCE)
+    for (kind, text), (_, output) in zip(found, found[1:]):
+        if kind == "python":
+            done = subprocess.run([sys.executable, "-"], input=text, cwd=ROOT, capture_output=True, text=True)
+            case("the lines in Python", (done.returncode, done.stdout) == (0, output), done.stderr)
+        if kind == "sh":
+            shown = [shell(line) for line in text.splitlines()]
+            case("the lines for C", [status for status, _, _ in shown] == [0] * 3 and shown[-1][1] == output, str(shown))
+    case("lines of each kind", {"python", "sh"} <= {kind for kind, _ in found})
+    first, shown = (text for _, text in blocks(README)[:2])
+    case("README's first run", shell(first)[:2] == (0, shown) and shown in [text for _, text in found])
+
+
+def shell(line):
+    done = subprocess.run(shlex.split(line), cwd=ROOT, capture_output=True, text=True)
+    return done.returncode, done.stdout, done.stderr
+
+
+# ---- C ----
+
+EMPTY = """\
+count 0 0 0
+plan 0 0 0
+check 2 0 0
+better 0 0 1 0
+better_words 0
+fresh 6 0
+sound 0
+feed 5 0 0 4294967295
+feed_own 5 0 0 4294967295
+read 9 0 0 0 0 0
+write 6 0 0
+report 0
+"""
+
+STRICT = ["-pedantic", "-Wall", "-Wextra", "-Werror", "-I", str(ROOT / "include")]
+
+
+def in_c():
+    with tempfile.TemporaryDirectory() as folder:
+        count, empty = (pathlib.Path(folder) / name for name in ("count", "empty"))
+        for source, program in (("examples/count.c", count), ("tests/callers/empty.c", empty)):
+            for library in ("libhedravos.a", "libhedravos.so"):
+                built = subprocess.run(["cc", "-std=c99", *STRICT, str(ROOT / source), str(LIBRARY / library), f"-Wl,-rpath,{LIBRARY}", "-o", str(program)])
+                case(f"{source} with {library}", built.returncode == 0)
+                if program == empty:
+                    case(f"empty lists with {library}", shell(str(empty))[:2] == (0, EMPTY), str(shell(str(empty))))
+                else:
+                    counts(str(count))
+    languages = [("c99", "cc", "c"), ("c17", "cc", "c")] + [("c++17", "c++", "c++")] * bool(shutil.which("c++"))
+    for standard, compiler, language in languages:
+        made = subprocess.run([compiler, f"-std={standard}", *STRICT, "-fsyntax-only", "-x", language, "-"], input=b'#include "hedravos.h"\n')
+        case(f"the header in {standard}", made.returncode == 0)
+
+
+def counts(program):
+    for words, status, output in [
+        ("", 0, "6\n5\n5\n6\n"),
+        ("1 3 5 6 7 5 8 6 5 7", 0, "6\n"),
+        ("3 2 5 6 7 5 8 6 5 7", 0, "6\n"),
+        ("2 256", 0, "0\n"),
+        ("5 0 1", 1, "refused 1 at 0\n"),
+        ("4 257 1", 1, "refused 2 at 0\n"),
+        ("1 1" + " 7" * 8000, 0, "1\n"),
+        ("1 1" + " 7" * 8001, 1, "refused 3 at 0\n"),
+        ("1 3 5 4294967295", 1, "refused 4 at 1\n"),
+        ("1", 2, ""),
+        ("1 3 5x", 2, ""),
+        ("1 3 -5", 2, ""),
+        ("1 3 4294967296", 2, ""),
+    ]:
+        case(f"count {words[:40]}", shell(f"{program} {words}")[:2] == (status, output))
+
+
+if __name__ == "__main__":
+    subprocess.run([str(ROOT / "tools/library")], check=True)
+    sys.exit(run(the_header, the_tables, the_examples, the_lines, in_c))
