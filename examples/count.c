@@ -16,7 +16,7 @@
 
 /* Prints the faults or the refusal, and answers whether there were faults to print. */
 static int count(uint32_t rule, uint32_t frames, const uint32_t *trace, size_t requests) {
-    uint32_t answer[3]; /* number, place, faults */
+    uint32_t answer[3] = {0}; /* number, place, faults */
     hedravos_count(rule, frames, trace, requests, answer, 3);
     if (answer[0] != 0) {
         printf("refused %u at %u\n", (unsigned)answer[0], (unsigned)answer[1]);

@@ -2,17 +2,19 @@
  * Hedravos for callers in C: counts of cache faults, eviction plans, a cache record, bundle files and their report.
  * docs/REFERENCE.md tells it all at length; tools/library makes the library to link with.
  *
- * Lists. A list is a pointer and its length in elements, words of 32 bits or bytes. The length told must be there, and
- * a list that is written may not overlap another one. An empty list may come with any pointer, NULL too.
+ * Lists. A list is a pointer and its length in elements, words of 32 bits or bytes. The length told must be there, a list
+ * that is written may not overlap another one, and nobody else may touch it before the call returns. An empty list may
+ * come with any pointer, NULL too.
  *
  * Answers. A function lays its numbers over the front of `answer`, in the order told here. Where `answer` is shorter,
  * the last ones are left out; where it is longer, its other words stay as they were.
  *     number   0, or the refusal's number
  *     place    where it was found: a moment, a byte, or 0
- * A refusal has 0 for faults, sizes and counts, and changes no list but `answer`; hedravos_fresh and hedravos_feed also
- * write the record that a refusal hands back. With several causes, the one that comes first in the order told is given.
+ * A refusal has 0 for every other number, the mark for a page, and changes no list but `answer`; hedravos_fresh and
+ * hedravos_feed also write the record that it hands back, where it fits. With several causes, the one that comes first in
+ * the order told is given.
  *
- * Nothing is kept between calls: several threads may call at once.
+ * Nothing is kept between calls: several threads may call at once, each with lists of its own.
  */
 #ifndef HEDRAVOS_H
 #define HEDRAVOS_H
@@ -53,7 +55,7 @@ enum {
 
 /* Refusals. */
 enum {
-    HEDRAVOS_UNKNOWN_RULE = 1,       /* the rule isn't 1 to 4; for a record, 1, 2 or 4 */
+    HEDRAVOS_UNKNOWN_RULE = 1,       /* the rule isn't 1 to 4; for hedravos_fresh, 1, 2 or 4 */
     HEDRAVOS_FRAMES_OUTSIDE = 2,     /* the frames aren't 1 to 256 */
     HEDRAVOS_TRACE_TOO_LONG = 3,     /* more than 8,000 requests */
     HEDRAVOS_MARK_REQUESTED = 4,     /* a request is the mark */
@@ -107,7 +109,7 @@ void hedravos_better(uint32_t m,
 /*
  * Copies that plan's words, one for each request, to the front of `words`, as many as there is room for.
  * Where hedravos_better refuses, there are none.
- * answer: how many words the plan has, copied or not.
+ * answer: the trace's length, whatever there was room for; 0 where hedravos_better refuses.
  */
 void hedravos_better_words(uint32_t m,
                            const uint32_t *trace, size_t trace_length,
@@ -117,8 +119,9 @@ void hedravos_better_words(uint32_t m,
                            uint32_t *answer, size_t answer_length);
 
 /*
- * Writes an empty cache record of rule 1, 2 or 4 with n frames; refused with 1 or 2, the blank record.
- * answer: number, place. Refusals: 1, 2, 6 (room for fewer than 1,028 words; nothing is written then).
+ * Writes an empty cache record of rule 1, 2 or 4 with n frames; refused with 1 or 2, the blank record. Where `cache` has
+ * fewer than 1,028 words it stays as it was.
+ * answer: number, place. Refusals: 1, 2, 6 (fewer than 1,028 words).
  */
 void hedravos_fresh(uint32_t rule, uint32_t n,
                     uint32_t *cache, size_t cache_length,
@@ -132,9 +135,10 @@ void hedravos_sound(const uint32_t *cache, size_t cache_length,
                     uint32_t *answer, size_t answer_length);
 
 /*
- * Serves one request: takes a record and writes the next one into other words. Where it refuses, that is the record
- * that it got; where the record itself has too few words, nothing is written.
- * answer: number, place, kind, page dropped (the mark where none was). Refusals: 5, 4 (place 0), 8, 6.
+ * Serves one request: takes a record and writes the next one into other words; where it refuses with 5, 4 or 8, the
+ * record that it got. Where `cache` or `next` has fewer than 1,028 words, `next` stays as it was.
+ * answer: number, place, kind, page dropped (the mark where none was).
+ * Refusals: 5 (also fewer than 1,028 words), 4 (place 0), 8, 6 (`next` has fewer than 1,028).
  */
 void hedravos_feed(const uint32_t *cache, size_t cache_length,
                    uint32_t page,
@@ -143,7 +147,8 @@ void hedravos_feed(const uint32_t *cache, size_t cache_length,
 
 /*
  * The same, with the record updated where it stands.
- * answer: number, place, kind, page dropped (the mark where none was). Refusals: 5, 4 (place 0), 8.
+ * answer: number, place, kind, page dropped (the mark where none was).
+ * Refusals: 5 (also fewer than 1,028 words), 4 (place 0), 8.
  */
 void hedravos_feed_own(uint32_t *cache, size_t cache_length,
                        uint32_t page,

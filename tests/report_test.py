@@ -148,6 +148,7 @@ RT = """#!/bin/sh
 echo "$*" >>"$0.calls"
 mkdir "$0.running" || { echo "rt: two at once FAILED"; exit 1; }
 trap 'rmdir "$0.running"' EXIT
+trap '' PIPE
 sleep 0.5
 echo "a note of the prover"
 echo "rt: one proved (1 s)"
@@ -243,6 +244,16 @@ def rebuilding(made):
     several = [started(made.root, BUNDLE, env=made.environment()) for _ in range(4)]
     ended = [(one.communicate()[0], one.returncode) for one in several]
     case("four at once build once", ended == [(b"again\n", 0)] * 4 and made.calls() == 8, str(ended))
+    source.write_text("// stopped\n")
+    stopped = started(made.root, BUNDLE, env=made.environment())
+    while made.calls() == 8:
+        time.sleep(0.01)
+    stopped.kill()
+    stopped.communicate()
+    case("one that was stopped breaks nothing", made.report()[:2] == (0, b"again\n") and made.calls() == 10)
+    os.utime(source, (time.time() + 9999,) * 2)
+    case("a source from tomorrow", made.report()[:2] == (0, b"again\n") and made.calls() == 11)
+    os.utime(source, (0, 0))
     for name, program in (("a program that fails", "exit 3"), ("a program that prints nothing", "true"), ("a program that is killed", "kill -9 $$")):
         source.write_text(f"// {name}\n")
         made.tell("prints", program)

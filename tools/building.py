@@ -33,7 +33,7 @@ def locked(shared=False):
         except BlockingIOError:
             say("waiting for another command that is building here")
             fcntl.flock(file, kind)
-        yield
+        yield file
 
 
 # ---- What is built already ----
@@ -41,14 +41,12 @@ def locked(shared=False):
 
 def sources(crates, files):
     """Everything that a build stands on; folders too, as they change when a file goes."""
-    yield ROOT / "crates.txt"
-    yield from (ROOT / file for file in files)
-    for crate in crates:
-        for part in ("src", "specs", "proofs", "stdin", "stdout"):
-            top = ROOT / "crates" / crate / part
-            if top.exists():
-                yield top
-                yield from top.rglob("*")
+    parts = ("src", "specs", "proofs", "stdin", "stdout")
+    for name in ["crates.txt", *files, *(f"crates/{crate}/{part}" for crate in crates for part in parts)]:
+        top = ROOT / name
+        if top.exists():
+            yield top
+            yield from top.rglob("*")
 
 
 def note_of(name):
@@ -118,15 +116,22 @@ class Progress:
             say(f"crate {len(self.seen)} of {len(self.crates)}: {crate}")
 
 
-def rt(words, log, progress):
-    """Runs `rt`; all that it says goes to the log."""
+def rt(words, log, lock, progress):
+    """Runs `rt`; all that it says goes to the log. It keeps the lock, also where this command is stopped before it has ended."""
+    said = []
     try:
         process = subprocess.Popen(
-            [rt_path(progress.what), *words], cwd=ROOT, stdin=subprocess.DEVNULL, stdout=subprocess.PIPE, stderr=subprocess.STDOUT, text=True, errors="replace"
+            [rt_path(progress.what), *words],
+            cwd=ROOT,
+            stdin=subprocess.DEVNULL,
+            stdout=subprocess.PIPE,
+            stderr=subprocess.STDOUT,
+            text=True,
+            errors="replace",
+            pass_fds=[lock.fileno()],
         )
     except OSError as error:
         raise Trouble(f"rt can't be run: {error.strerror}") from None
-    said = []
     with process:
         for line in process.stdout:
             log.write(line)

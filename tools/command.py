@@ -128,17 +128,17 @@ def write_output(data):
 
 
 def write_file(data, name, source):
-    """Writes a file whole or not at all, and never over the file that was read; without a name, standard output."""
+    """Writes a file whole or leaves it as it was, and never over the file that was read; without a name, standard output."""
     if same_file(name, source):
         raise Trouble(f"{shown(source, 200)} is what is read; give another name to write to")
     if name in (None, "-"):
         return write_output(data)
     try:
-        path = pathlib.Path(os.path.realpath(name))
-        if path.exists() and not path.is_file():
-            path.write_bytes(data)
+        if os.path.exists(name) and not os.path.isfile(name):
+            # A device or a pipe has no file to put in its place.
+            pathlib.Path(name).write_bytes(data)
         else:
-            replace(path, data)
+            replace(pathlib.Path(os.path.realpath(name)), data)
     except (OSError, ValueError) as error:
         raise Trouble(f"{shown(name, 200)} can't be written: {reason(error)}") from None
 
