@@ -14,16 +14,20 @@
 
 #include "hedravos.h"
 
-/* Prints the faults or the refusal, and answers whether there were faults to print. */
+/* Prints the faults or the refusal, and answers the status: 0, 1 for a refusal, 2 where nothing can be printed. */
 static int count(uint32_t rule, uint32_t frames, const uint32_t *trace, size_t requests) {
     uint32_t answer[3] = {0}; /* number, place, faults */
     hedravos_count(rule, frames, trace, requests, answer, 3);
     if (answer[0] != 0) {
         printf("refused %u at %u\n", (unsigned)answer[0], (unsigned)answer[1]);
-        return 0;
+    } else {
+        printf("%u\n", (unsigned)answer[2]);
     }
-    printf("%u\n", (unsigned)answer[2]);
-    return 1;
+    if (fflush(stdout) != 0) {
+        perror("count");
+        return 2;
+    }
+    return answer[0] != 0;
 }
 
 /* A whole number of 32 bits, or the end of the program. */
@@ -46,8 +50,9 @@ int main(int words, char **word) {
     size_t requests = 0;
     if (words == 1) {
         uint32_t rule;
-        for (rule = HEDRAVOS_LRU; rule <= HEDRAVOS_LRU2; rule++) count(rule, 3, example, 8);
-        return 0;
+        int status = 0;
+        for (rule = HEDRAVOS_LRU; rule <= HEDRAVOS_LRU2 && status == 0; rule++) status = count(rule, 3, example, 8);
+        return status;
     }
     if (words < 3) {
         fprintf(stderr, "usage: count RULE FRAMES PAGE...\n");
@@ -57,5 +62,5 @@ int main(int words, char **word) {
         trace[requests] = number(word[requests + 3]);
         requests++;
     }
-    return count(number(word[1]), number(word[2]), trace, requests) ? 0 : 1;
+    return count(number(word[1]), number(word[2]), trace, requests);
 }

@@ -176,7 +176,7 @@ void hedravos_write(uint32_t n, uint32_t m,
 
 /*
  * Puts the report on a bundle file to the front of `room`, as much of its text as there is room for. A refused file
- * has a report too: the line that says so.
+ * has a report too: the line that says so. No zero byte is put behind the text.
  * answer: how many bytes were put.
  */
 void hedravos_report(const uint8_t *file, size_t file_length,

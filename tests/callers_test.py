@@ -188,20 +188,26 @@ STRICT = ["-pedantic", "-Wall", "-Wextra", "-Werror", "-I", str(ROOT / "include"
 
 
 def in_c():
-    with tempfile.TemporaryDirectory() as folder:
-        count, empty = (pathlib.Path(folder) / name for name in ("count", "empty"))
-        for source, program in (("examples/count.c", count), ("tests/callers/empty.c", empty)):
-            for library in ("libhedravos.a", "libhedravos.so"):
-                built = subprocess.run(["cc", "-std=c99", *STRICT, str(ROOT / source), str(LIBRARY / library), f"-Wl,-rpath,{LIBRARY}", "-o", str(program)])
-                case(f"{source} with {library}", built.returncode == 0)
-                if program == empty:
-                    case(f"empty lists with {library}", shell(str(empty))[:2] == (0, EMPTY), str(shell(str(empty))))
-                else:
-                    counts(str(count))
+    for library in ("libhedravos.a", "libhedravos.so"):
+        with tempfile.TemporaryDirectory() as folder:
+            counts(compiled("examples/count.c", "c99", library, folder))
+            shown = shell(compiled("tests/callers/empty.c", "c99", library, folder))
+            case(f"empty lists with {library}", shown[:2] == (0, EMPTY), str(shown))
+            shown = shell(compiled("tests/callers/host.c", "c11", library, folder))
+            case(f"threads, children and signals with {library}", shown == (0, "fine\n", ""), str(shown))
     languages = [("c99", "cc", "c"), ("c17", "cc", "c")] + [("c++17", "c++", "c++")] * bool(shutil.which("c++"))
     for standard, compiler, language in languages:
         made = subprocess.run([compiler, f"-std={standard}", *STRICT, "-fsyntax-only", "-x", language, "-"], input=b'#include "hedravos.h"\n')
         case(f"the header in {standard}", made.returncode == 0)
+
+
+def compiled(source, standard, library, folder):
+    """The program made of a source and the library."""
+    program = str(pathlib.Path(folder) / pathlib.Path(source).stem)
+    linked = [str(LIBRARY / library), "-pthread", f"-Wl,-rpath,{LIBRARY}"]
+    made = subprocess.run(["cc", f"-std={standard}", *STRICT, str(ROOT / source), *linked, "-o", program])
+    case(f"{source} with {library}", made.returncode == 0)
+    return program
 
 
 def counts(program):
@@ -221,8 +227,10 @@ def counts(program):
         ("1 3 4294967296", 2, ""),
     ]:
         case(f"count {words[:40]}", shell(f"{program} {words}")[:2] == (status, output))
+    with open("/dev/full", "w") as full:
+        case("count on a full disk", subprocess.run([program], stdout=full, stderr=subprocess.DEVNULL).returncode == 2)
 
 
 if __name__ == "__main__":
-    subprocess.run([str(ROOT / "tools/library")], check=True)
+    subprocess.run([str(ROOT / "tools/library")], check=True, stdout=subprocess.DEVNULL)
     sys.exit(run(the_header, the_tables, the_examples, the_lines, in_c))

@@ -62,8 +62,9 @@ def largest():
 
 
 def refused_files():
-    refused("an empty file", b"", "9 at 0", "the file ends after 0 bytes")
-    refused("a cut file", example()[:83], "9 at 80", "the file ends after 83 bytes")
+    refused("an empty file", b"", "9 at 0", "standard input is refused: the file is empty (")
+    refused("a cut file", example()[:83], "9 at 80", "ends after 83 bytes, inside the word that begins at byte 80")
+    refused("a file cut between words", example()[:80], "9 at 80", "ends after 80 bytes, where another word should begin")
     refused("sizes", words(3, 3, 2, 0, 0), "10 at 0", "the count is 3")
     refused("too many requests", words(2, 3, 2, 8001), "10 at 12", "8000 requests at most")
     refused("a plan of another length", words(2, 3, 2, 2, 5, 6, 1, MARK), "10 at 24", "0 words or 2")
@@ -87,6 +88,22 @@ def ways_in():
         case("a file as standard input", report("-", stdin=file) == (0, REPORT, ""))
     with open("/dev/zero", "rb") as file:
         case("an input without end", report("-", stdin=file)[:2] == (1, b"refused 10 at 0\n"))
+    case("a name behind --", report("--", BUNDLE) == (0, REPORT, ""))
+    case("no path of Python's own", report(BUNDLE, env=os.environ | {"PYTHONSAFEPATH": "1"}) == (0, REPORT, ""))
+    slowly()
+
+
+def slowly():
+    """A pipe that gives its bytes in two parts, and says in between that it has none."""
+    out, into = os.pipe()
+    os.set_blocking(out, False)
+    reading = subprocess.Popen([str(ROOT / "tools" / "report"), "-"], stdin=out, stdout=subprocess.PIPE, stderr=subprocess.PIPE)
+    os.close(out)
+    for part in (example()[:50], example()[50:]):
+        time.sleep(0.3)
+        os.write(into, part)
+    os.close(into)
+    case("an input that comes slowly", reading.communicate() == (REPORT, b"") and reading.returncode == 0)
 
 
 def trouble(name, told_by, message):
@@ -99,12 +116,24 @@ def wrong_files(root=ROOT):
     text = str(ROOT / "examples" / "first.txt")
     trouble("no such file", report("no-such-file", root=root), "there is no file no-such-file; give")
     trouble("a directory", report(str(ROOT / "examples"), root=root), "is a directory; give")
-    trouble("a text", report(text, root=root), f"tools/bundle_from_text {text}")
+    trouble("a text", report(text, root=root), f"tools/bundle_from_text {text} NEW.bundle")
     trouble("a text as input", report("-", root=root, input=b"requests 5\n"), "standard input is a text")
-    trouble("a short text", report("-", root=root, input=b"n 3"), "is a text")
-    trouble("a long text", report("-", root=root, input="ä5 ".encode() * 30000), "is a text")
-    trouble("a text in UTF-16", report("-", root=root, input="n 3\n".encode("utf-16")), "is a text")
-    trouble("too many words", report("a", "b", root=root), "wrong use")
+    for name, data in [
+        ("a short text", b"n 3"),
+        ("a long text", "ä5 ".encode() * 30000),
+        ("a text with a mark of byte order", b"\xef\xbb\xbfn 3\n"),
+        ("a text in Latin-1", "# für n\nn 3\n".encode("latin-1")),
+        ("a text that ends in a control character", b"n 3\r\n\x1a"),
+        ("a text with zeros far behind", b"requests 5 6 7\n" * 20 + b"\0"),
+    ]:
+        trouble(name, report("-", root=root, input=data), "is a text, not a bundle; make")
+    for name in ("utf-16", "utf-16-le", "utf-16-be"):
+        trouble(f"a text in {name}", report("-", root=root, input="n 3\n".encode(name)), "is a text in UTF-16, not a bundle; save it in UTF-8")
+    trouble("too many words", report("a", "b", root=root), "there are 2 names")
+    trouble("an option that isn't", report("--nope", root=root), "there is no option --nope")
+    trouble("an empty name", report("", root=root), "a name is empty")
+    closed = subprocess.run(["sh", "-c", f"exec {root}/tools/report <&-"], capture_output=True)
+    trouble("no input at all", (closed.returncode, closed.stdout, closed.stderr.decode()), "standard input is closed")
 
 
 def outputs_that_fail():
@@ -144,7 +173,8 @@ def started(root, *arguments, **more):
 # ---- Building, with a kit that is made up ----
 
 RT = """#!/bin/sh
-# Notes the call; fails where another is running, or where it is told to.
+# Says where the kit is; otherwise notes the call, and fails where another is running or where it is told to.
+[ "$1" = doc ] && { echo "${0%/bin/rt}/docs/guide"; exit; }
 echo "$*" >>"$0.calls"
 mkdir "$0.running" || { echo "rt: two at once FAILED"; exit 1; }
 trap 'rmdir "$0.running"' EXIT
@@ -157,6 +187,7 @@ echo "rt: report proved (1 s)"
 mkdir -p target/bin
 printf '#!/bin/sh\\ncat >/dev/null\\n%s\\n' "$(cat "$0.prints")" >target/bin/report
 chmod +x target/bin/report
+echo ended >>"$0.ended"
 """
 
 EMULATOR = """#!/bin/sh
@@ -177,7 +208,8 @@ class MadeUp:
             (self.root / "crates" / crate / "src").mkdir(parents=True)
             (self.root / "crates" / crate / "src" / "lib.rt").write_text("\n")
         self.rt = self.script("kit/bin/rt", RT)
-        self.script(f"kit/on/{platform.machine()}/toolchain/bin/qemu-x86_64", EMULATOR)
+        self.emulator = self.script(f"kit/on/{platform.machine()}/toolchain/bin/qemu-x86_64", EMULATOR)
+        self.script(f"kit/on/{platform.machine()}/toolchain/lib/ld-linux-x86-64.so.2", "")
         self.tell("prints", "echo printed")
         # A file's time and a build's are told apart once the clock has moved.
         time.sleep(0.05)
@@ -192,8 +224,8 @@ class MadeUp:
     def tell(self, name, text):
         pathlib.Path(f"{self.rt}.{name}").write_text(text)
 
-    def calls(self):
-        path = pathlib.Path(f"{self.rt}.calls")
+    def calls(self, what="calls"):
+        path = pathlib.Path(f"{self.rt}.{what}")
         return len(path.read_text().splitlines()) if path.exists() else 0
 
     def environment(self, with_rt=True):
@@ -233,7 +265,7 @@ def rebuilding(made):
     case("a new source", made.report()[0] == 0 and made.calls() == 3)
     (source.parent / "more.rt").unlink()
     case("a source less", made.report()[0] == 0 and made.calls() == 4)
-    (made.root / "target/bin/report").write_text("#!/bin/sh\necho wrong\n")
+    (made.root / "target/built/report.program").write_text("#!/bin/sh\necho wrong\n")
     case("a program that was changed", made.report()[:2] == (0, b"again\n") and made.calls() == 5)
     source.write_text("// wrong\n")
     made.tell("fails", "")
@@ -251,13 +283,53 @@ def rebuilding(made):
     stopped.kill()
     stopped.communicate()
     case("one that was stopped breaks nothing", made.report()[:2] == (0, b"again\n") and made.calls() == 10)
-    os.utime(source, (time.time() + 9999,) * 2)
-    case("a source from tomorrow", made.report()[:2] == (0, b"again\n") and made.calls() == 11)
-    os.utime(source, (0, 0))
+    os.utime(source, (time.time() + 99999,) * 2)
+    for _ in range(2):
+        case("a source from tomorrow", made.report()[:2] == (0, b"again\n") and made.calls() == 11)
+    stopping(made, source)
+    odd_places(made)
     for name, program in (("a program that fails", "exit 3"), ("a program that prints nothing", "true"), ("a program that is killed", "kill -9 $$")):
         source.write_text(f"// {name}\n")
         made.tell("prints", program)
         trouble(name, made.report(), "the report program ended with status")
+
+
+def stopping(made, source):
+    """A command that is stopped while it builds stops the build too."""
+    for number in (signal.SIGINT, signal.SIGTERM):
+        source.write_text(f"// stopped by {number}\n")
+        before = made.calls()
+        stopped = started(made.root, BUNDLE, env=made.environment(), start_new_session=True)
+        while made.calls() == before:
+            time.sleep(0.01)
+        os.killpg(stopped.pid, number)
+        told = stopped.communicate()[1]
+        case(f"stopped by {number}", stopped.returncode == -number and b"Traceback" not in told, told.decode())
+        ended = made.calls("ended")
+        time.sleep(1)
+        case("the build is stopped too", made.calls("ended") == ended)
+        shutil.rmtree(f"{made.rt}.running", ignore_errors=True)
+    out, into = os.pipe()
+    os.close(out)
+    done = subprocess.run([str(made.root / "tools/report"), BUNDLE], env=made.environment(), stdout=subprocess.PIPE, stderr=into)
+    os.close(into)
+    case("progress that nobody reads", (done.returncode, done.stdout) == (0, b"again\n"))
+
+
+def odd_places(made):
+    """What is in the way, and what is noted wrong, is built again or told."""
+    note = made.root / "target/built/report"
+    for text in ("", "[]", "{}", '{"sources": 1, "made": {}, "words": []}', "[" * 100000):
+        note.write_text(text)
+        case(f"a note that says {text[:20]}", made.report()[:2] == (0, b"again\n"))
+    if platform.machine() != "x86_64":
+        made.emulator.rename(made.emulator.with_name("elsewhere"))
+        trouble("an emulator that is gone", made.report(), "which runs programs for x86-64 on this machine")
+        made.emulator.with_name("elsewhere").rename(made.emulator)
+    note.unlink()
+    note.mkdir()
+    trouble("a folder in the note's place", made.report(), "target/built/")
+    note.rmdir()
 
 
 if __name__ == "__main__":

@@ -89,7 +89,7 @@ def texts_taken():
         ("a mark of byte order", "\ufeff" + TEXT),
         ("line ends of two characters", TEXT.replace("\n", "\r\n")),
         ("line ends of the other kind", TEXT.replace("\n", "\r")),
-        ("tabs and leading zeros", "n\t003\nm 2\nrequests 5\t" + "0" * 5000 + "6 7\n"),
+        ("tabs", "n\t3\nm 2\nrequests 5\t6 7\n"),
     ]:
         case(f"text taken: {name}", from_text(text) == (0, bundle, ""), from_text(text)[2])
     planned = words(2, 1, 1, 2, 5, 6, 2, MARK, 5)
@@ -103,31 +103,34 @@ def texts_refused():
         ("no n", "m 2\nrequests 5\n", "no line for n"),
         ("no m", "n 2\nrequests 5\n", "no line for m"),
         ("no requests", "n 2\nm 2\n", "no line of requests"),
-        ("n twice", "n 2\n" + TEXT, "line 2: n is given twice, first in line 1"),
-        ("n without number", "n\nm 2\nrequests\n", "line 1: n takes one number"),
+        ("n twice", "n 2\n" + TEXT, "line 2, word 1: n is given again; it stands in line 1"),
+        ("n without number", "n\nm 2\nrequests\n", "line 1, word 1: n takes one number"),
+        ("n with a minus", "n -3\nm 2\nrequests\n", "line 1, word 2: '-3' isn't a number of frames, 1 to 256"),
         ("unknown word", "frames 3\n" + TEXT, "line 1, word 1: 'frames' isn't"),
         ("unknown word in a list", TEXT + "frames 3\n", "line 4, word 1: 'frames' isn't"),
         ("numbers in no list", "n 3\nm 2\n5 6\n", "line 3, word 1: '5' isn't"),
         ("numbers after n", "requests 5\nn 3\n6\nm 2\n", "line 3, word 1: '6' isn't"),
-        ("not a number", TEXT + "requests 5 6x\n", "line 4, word 3: '6x' isn't a number"),
-        ("minus", TEXT + "requests -5\n", "line 4, word 2: '-5' isn't a number"),
-        ("too large", TEXT + "requests 4294967296\n", "isn't a number from 0 to 4294967294"),
-        ("other digits", TEXT + "requests \u0665\n", "isn't a number"),
+        ("not a number", TEXT + "requests 5 6x\n", "line 4, word 3: '6x' isn't a page"),
+        ("minus", TEXT + "requests -5\n", "line 4, word 2: '-5' isn't a page"),
+        ("too large", TEXT + "requests 4294967296\n", "isn't a page, 0 to 4294967294"),
+        ("other digits", TEXT + "requests \u0665\n", "isn't a page"),
+        ("a comma in a number", TEXT + "requests 1,000,000\n", "line 4, word 3: '000' has a zero in front"),
+        ("a longer dash in a plan", TEXT + "plan \u2013\n", "isn't a page, 0 to 4294967294, or - for none"),
         ("a comma too many", TEXT + "requests 5,,6\n", "line 4, word 3: there is a comma"),
         ("a comma in front", TEXT + ",6\n", "line 4, word 1: there is a comma"),
         ("commas alone", TEXT + "requests 5\n,\n", "line 5, word 1: there is a comma"),
-        ("semicolons", TEXT + "requests 5;6\n", "'5;6' isn't a number"),
+        ("semicolons", TEXT + "requests 5;6\n", "'5;6' isn't a page"),
         ("mark requested", TEXT + "requests 4294967295\n", "line 4, word 2: 4294967295 is the mark"),
-        ("dash requested", TEXT + "requests -\n", "'-' isn't a number"),
+        ("dash requested", TEXT + "requests -\n", "'-' isn't a page"),
         ("mark in plan by number", TEXT + "plan - 4294967295\n", "line 4, word 3: 4294967295 is the mark"),
-        ("plan too short", TEXT + "plan -\n", "has 1 words"),
+        ("plan too short", TEXT + "plan -\n", "line 4: the plan that begins here has 1 words"),
         ("plan without words", TEXT + "plan\n", "has 0 words"),
         ("plan too long", TEXT + "plan - - - -\n", "has 4 words"),
-        ("n is 0", "m 2\nn 0\nrequests\n", "line 2: refused 2 at 0: n is 0"),
-        ("n is 257", "n 257\nm 2\nrequests\n", "line 1: refused 2 at 0: n is 257"),
-        ("m is 0", "n 3\nm 0\nrequests\n", "line 2: refused 2 at 0: m is 0"),
-        ("m above n", "n 3\nm 4\nrequests\n", "line 2: refused 12 at 8"),
-        ("8,001 requests", "n 3\nm 2\nrequests" + " 5" * 8000 + "\n5\n6\n", "line 4: refused 3 at 0: there are 8002"),
+        ("n is 0", "m 2\nn 0\nrequests\n", "line 2, word 2: n is 0, not 1 to 256 (refusal 2)"),
+        ("n is 257", "n 257\nm 2\nrequests\n", "line 1, word 2: n is 257, not 1 to 256 (refusal 2)"),
+        ("m is 0", "n 3\nm 0\nrequests\n", "line 2, word 2: m is 0, not 1 to 256 (refusal 2)"),
+        ("m above n", "n 3\nm 4\nrequests\n", "line 2, word 2: m is 4, above n, which is 3 (refusal 12)"),
+        ("8,001 requests", "n 3\nm 2\nrequests" + " 5" * 7999 + "\n5 6\n7\n", "line 4, word 2: there are 8002 requests, above 8000 (refusal 3)"),
         ("empty text", "", "no line for n"),
     ]:
         status, output, told = from_text(text)
@@ -177,13 +180,15 @@ def wrong_files():
         ("no such file", ["no-such-file"], "there is no file no-such-file"),
         ("a directory", [str(ROOT / "examples")], "is a directory"),
         ("a file that can't be read", ["/proc/self/mem"], "can't be read"),
-        ("too many words", ["a", "b", "c"], "wrong use"),
+        ("too many words", ["a", "b", "c"], "there are 3 names"),
+        ("an option that isn't", ["--nope"], "there is no option --nope"),
+        ("an empty name", ["a", ""], "a name is empty"),
     ]:
         for tool_name in ("bundle_from_text", "bundle_to_text"):
             status, output, told = tool(tool_name, b"", *arguments)
             right = status == 2 and output == b"" and message in told and sentence(tool_name, told)
             case(f"{tool_name}: {name}", right, told)
-    case("no word", tool("bundle_from_text", b"")[0] == 2)
+    case("no word, something put in", tool("bundle_from_text", TEXT.encode())[1] == words(2, 3, 2, 3, 5, 6, 7, 0))
     status, output, told = tool("bundle_to_text", b"", str(ROOT / "examples" / "first.txt"))
     case("a text for a bundle", (status, output) == (2, b"") and "tools/bundle_from_text" in told)
     status, output, told = tool("bundle_from_text", example(), "-")
@@ -219,6 +224,34 @@ def files_written():
         status, _, told = tool("bundle_from_text", TEXT.encode(), "-", str(pathlib.Path(folder) / "no" / "where"))
         case("a folder that isn't there", status == 2 and "can't be written: No such file" in told)
         case("nothing is left over", sorted(os.listdir(folder)) == ["a.bundle", "a.txt", "b.txt", "link"])
+        text.write_text(TEXT)
+        out = pathlib.Path(folder) / "out"
+        with open(out, "wb", buffering=0) as file:
+            file.write(b"before ")
+            subprocess.run([str(ROOT / "tools/bundle_from_text"), str(text), "/dev/stdout"], stdout=file)
+            file.write(b" after")
+        case("standard output by its name", out.read_bytes() == b"before " + made + b" after")
+        case("a pipe by its name", tool("bundle_from_text", b"", str(text), "/dev/stdout") == (0, made, ""))
+        owners(pathlib.Path(folder), text, made)
+
+
+def owners(folder, text, made):
+    """Where modes count, as for everybody but root: a file that may not be written stays, one in a closed folder is written."""
+    fast, shut = folder / "fast", folder / "shut"
+    fast.write_bytes(b"kept")
+    shut.mkdir()
+    (shut / "open").write_bytes(b"old")
+    fast.chmod(0o444)
+    (shut / "open").chmod(0o666)
+    shut.chmod(0o555)
+    folder.chmod(0o777)
+    user = {"user": 65534, "group": 65534, "extra_groups": []} if os.getuid() == 0 else {}
+    status, _, told = tool("bundle_from_text", b"", str(text), str(fast), **user)
+    case("a file that may not be written", status == 2 and "Permission denied" in told and fast.read_bytes() == b"kept")
+    case("a file in a closed folder", tool("bundle_from_text", b"", str(text), str(shut / "open"), **user)[0] == 0 and (shut / "open").read_bytes() == made)
+    status, _, told = tool("bundle_from_text", b"", str(text), str(shut / "new"), **user)
+    case("a new file in a closed folder", status == 2 and "Permission denied" in told)
+    shut.chmod(0o755)
 
 
 def outputs_that_fail():

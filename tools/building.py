@@ -1,75 +1,90 @@
-"""Building with `rt`, for the commands of this folder: one at a time, only what is older than its sources, with progress.
+"""Building with `rt`, for the commands of this folder: one at a time, only where a source has changed, with progress.
 
-What is built is noted in target/built/NAME: when building began, the files made, and some words, as those to run a program by.
-So what is built runs without `rt`, and two commands at once don't break each other's work.
+What is built is noted in target/built/NAME: the state of its sources, that of the files made, and some words, as those to run
+a program by. So what is built runs without `rt`, and commands at the same time don't break each other's work.
 """
 
 import contextlib
 import fcntl
+import hashlib
 import json
 import os
 import pathlib
 import platform
 import re
 import shutil
+import signal
 import subprocess
-import time
 
-from command import Trouble, say
+from command import Trouble, reason, say
 
 ROOT = pathlib.Path(__file__).resolve().parent.parent
+BUILT = ROOT / "target" / "built"
 
 
 # ---- One at a time ----
 
 
 @contextlib.contextmanager
-def locked(shared=False):
-    """Holds the lock on this folder's target/: shared to use what is built, else to build. `rt ci` removes target/, so the lock is on a file beside it."""
-    kind = fcntl.LOCK_SH if shared else fcntl.LOCK_EX
-    with open(ROOT / "crates.txt", "rb") as file:
+def locked():
+    """Holds the lock on this folder's target/, and answers its number. `rt ci` removes target/, so the lock is on the folder that it is in."""
+    lock = os.open(ROOT, os.O_RDONLY)
+    try:
         try:
-            fcntl.flock(file, kind | fcntl.LOCK_NB)
+            fcntl.flock(lock, fcntl.LOCK_EX | fcntl.LOCK_NB)
         except BlockingIOError:
             say("waiting for another command that is building here")
-            fcntl.flock(file, kind)
-        yield file
+            fcntl.flock(lock, fcntl.LOCK_EX)
+        yield lock
+    finally:
+        os.close(lock)
 
 
 # ---- What is built already ----
 
 
-def sources(crates, files):
-    """Everything that a build stands on; folders too, as they change when a file goes."""
+def state_of(crates, files=()):
+    """The names, times and sizes of everything that a build stands on, as one word."""
     parts = ("src", "specs", "proofs", "stdin", "stdout")
+    lines = []
     for name in ["crates.txt", *files, *(f"crates/{crate}/{part}" for crate in crates for part in parts)]:
         top = ROOT / name
-        if top.exists():
-            yield top
-            yield from top.rglob("*")
+        lines += [line_of(path) for path in [top, *top.rglob("*")] if path.is_file()]
+    return hashlib.sha256("\n".join(sorted(lines)).encode("utf-8", "surrogateescape")).hexdigest()
 
 
-def note_of(name):
-    return ROOT / "target" / "built" / name
+def line_of(path):
+    return f"{path.relative_to(ROOT)} {mark_of(path)}"
 
 
-def built(name, crates, files=()):
-    """The note of what is built, or None where it is missing or older than a source."""
+def mark_of(path):
+    """A file's time and size."""
+    is_now = path.stat()
+    return [is_now.st_mtime_ns, is_now.st_size]
+
+
+def built(name, state):
+    """The words noted, where what was built is as it was, of the same sources, and all that it needs is there; else None."""
     try:
-        note = json.loads(note_of(name).read_text())
-        if any((ROOT / made).stat().st_mtime_ns != when for made, when in note["made"].items()):
-            return None
-        if any(path.stat().st_mtime_ns >= note["began"] for path in sources(crates, files)):
-            return None
-        return note
-    except (OSError, ValueError, KeyError, TypeError, AttributeError):
+        note = json.loads((BUILT / name).read_text())
+        here = all(mark_of(ROOT / made) == mark for made, mark in note["made"].items())
+        here = here and all(os.path.exists(word) for word in note["words"] if word.startswith("/"))
+        return note["words"] if here and note["words"] and note["sources"] == state else None
+    except (OSError, ValueError, LookupError, TypeError, AttributeError, RecursionError):
         return None
 
 
-def write_note(name, began, made, words):
-    times = {made_one: (ROOT / made_one).stat().st_mtime_ns for made_one in made}
-    note_of(name).parent.mkdir(parents=True, exist_ok=True)
-    note_of(name).write_text(json.dumps({"began": began, "made": times, "words": words}))
+def write_note(name, state, made, words):
+    note = {"sources": state, "made": {one: mark_of(ROOT / one) for one in made}, "words": words}
+    put_in_place(BUILT / name, lambda new: new.write_text(json.dumps(note)))
+
+
+def put_in_place(path, make):
+    """Makes a file beside its place, then puts it there, so that nobody sees half of it."""
+    new = path.with_name(f".{path.name}.new")
+    path.parent.mkdir(parents=True, exist_ok=True)
+    make(new)
+    os.replace(new, path)
 
 
 # ---- Building ----
@@ -95,52 +110,73 @@ def reached(names):
     return [name for name in deps if name in wanted]
 
 
-class Progress:
-    """Says what is built, and which crate of how many is proved, once for each."""
+class Build:
+    """One build, under the lock: says which crate of how many is proved, once for each; what the prover says goes to a log."""
 
-    def __init__(self, what, crates):
-        rt_path(what)
-        say(f"building {what}, {len(crates)} crates; what isn't proved yet takes some minutes")
-        self.what = what
+    def __init__(self, name, crates, lock):
+        self.name = name
         self.crates = crates
+        self.lock = lock
         self.seen = set()
-
-    def take(self, line):
-        found = re.match(r"rt: (\w+) proved", line)
-        if found:
-            self.proved(found[1])
+        self.rt_path = rt_path(name)
+        try:
+            BUILT.mkdir(parents=True, exist_ok=True)
+            self.log = open(ROOT / "target" / f"{name}.log", "w")
+        except OSError as error:
+            raise Trouble(f"the {name} isn't built yet, and {ROOT / 'target'} can't be written: {reason(error)}; run it once as a user who may write there") from None
+        say(f"building the {name}, {len(crates)} crates; what isn't proved yet takes some minutes")
 
     def proved(self, crate):
         if crate in self.crates and crate not in self.seen:
             self.seen.add(crate)
             say(f"crate {len(self.seen)} of {len(self.crates)}: {crate}")
 
-
-def rt(words, log, lock, progress):
-    """Runs `rt`; all that it says goes to the log. It keeps the lock, also where this command is stopped before it has ended."""
-    said = []
-    try:
+    def rt(self, *words):
+        """Runs `rt`. It keeps the lock, also where this command is killed; where it is stopped otherwise, `rt` is too."""
+        said = []
         process = subprocess.Popen(
-            [rt_path(progress.what), *words],
+            [self.rt_path, *words],
             cwd=ROOT,
             stdin=subprocess.DEVNULL,
             stdout=subprocess.PIPE,
             stderr=subprocess.STDOUT,
             text=True,
             errors="replace",
-            pass_fds=[lock.fileno()],
+            pass_fds=[self.lock],
+            start_new_session=True,
         )
-    except OSError as error:
-        raise Trouble(f"rt can't be run: {error.strerror}") from None
-    with process:
-        for line in process.stdout:
-            log.write(line)
-            log.flush()
-            said.append(line)
-            progress.take(line)
-    if process.returncode != 0:
-        told = next((line for line in said if "NOT PROVED" in line or "FAILED" in line), "".join(said[-1:])).strip()
-        raise Trouble(f"{progress.what} isn't built: {told or 'rt failed'}; all that was said is in {log.name}")
+        try:
+            for line in process.stdout:
+                self.log.write(line)
+                self.log.flush()
+                said.append(line)
+                found = re.match(r"rt: (\w+) proved", line)
+                if found:
+                    self.proved(found[1])
+            status = process.wait()
+        except BaseException:
+            with contextlib.suppress(ProcessLookupError):
+                os.killpg(process.pid, signal.SIGTERM)
+            process.wait()
+            raise
+        if status != 0:
+            told = next((line for line in said if "NOT PROVED" in line or "FAILED" in line), "".join(said[-1:])).strip()
+            raise Trouble(f"the {self.name} isn't built: {told or 'rt failed'}; all that was said is in {self.log.name}")
+
+    def run(self, words, said=None):
+        """Runs another program that the build needs."""
+        words = [str(word) for word in words]
+        self.log.write(" ".join(words) + "\n")
+        self.log.flush()
+        try:
+            done = subprocess.run(words, cwd=ROOT, input=said, text=True, stdout=self.log, stderr=subprocess.STDOUT)
+        except OSError as error:
+            raise Trouble(f"the {self.name} isn't built: {words[0]} can't be run: {reason(error)}") from None
+        if done.returncode != 0:
+            raise Trouble(f"the {self.name} isn't built: {words[0]} failed; all that was said is in {self.log.name}")
+
+
+# ---- The kit ----
 
 
 def rt_path(what):
@@ -148,36 +184,23 @@ def rt_path(what):
     home = os.environ.get("RATTLE_HOME")
     path = shutil.which("rt") or (home and shutil.which("rt", path=f"{home}/bin"))
     if not path:
-        raise Trouble(f"{what} isn't built yet, and rt, which builds it, isn't on the path: install the Rattle kit and put its bin folder on the path")
+        raise Trouble(f"the {what} isn't built yet, and rt, which builds it, isn't on the path: install the Rattle kit and put its bin folder on the path")
     return path
 
 
-def kit():
-    """The kit's folder for this machine, found as `rt` finds it."""
-    home = os.environ.get("RATTLE_HOME") or pathlib.Path(rt_path("this")).resolve().parent.parent
-    return pathlib.Path(home) / "on" / platform.machine()
+def kit(rt):
+    """The kit's folder for this machine, as `rt` tells it."""
+    guide = subprocess.run([rt, "doc"], capture_output=True, text=True).stdout.strip()
+    return pathlib.Path(guide).parent.parent / "on" / platform.machine()
 
 
-@contextlib.contextmanager
-def log_of(name):
-    """Where all goes that the prover says."""
-    path = ROOT / "target" / f"{name}.log"
-    try:
-        path.parent.mkdir(exist_ok=True)
-        with open(path, "w") as log:
-            yield log
-    except OSError as error:
-        raise Trouble(f"{path} can't be written: {error.strerror}") from None
-
-
-def began():
-    return time.time_ns()
-
-
-def to_run(program):
+def to_run(rt, program):
     """The words that run a built program. It is for x86-64; elsewhere the kit has an emulator, told to be the plain processor, for which records are copied fast."""
     if platform.machine() == "x86_64":
         return [program]
-    tools = kit() / "toolchain"
-    emulated = [tools / "bin" / "qemu-x86_64", "-cpu", "qemu64", tools / "lib" / "ld-linux-x86-64.so.2", "--library-path", tools / "lib"]
-    return [str(word) for word in emulated] + [program]
+    tools = kit(rt) / "toolchain"
+    words = [tools / "bin/qemu-x86_64", "-cpu", "qemu64", tools / "lib/ld-linux-x86-64.so.2", "--library-path", tools / "lib", program]
+    missing = [word for word in words if isinstance(word, pathlib.Path) and not word.exists()]
+    if missing:
+        raise Trouble(f"the kit has no {missing[0]}, which runs programs for x86-64 on this machine")
+    return [str(word) for word in words]

@@ -20,8 +20,8 @@ The text has lines of these kinds, in any order:
     # a remark             up to the end of the line
 
 A list goes on over further lines, with or without its name in front, so that one
-request on a line works too; commas may stand between words. A mark of byte order
-in front is passed over."""
+request on a line works too. A comma may stand behind a word and ends it: 1,000 is
+two words. A mark of byte order in front is passed over."""
 
 
 # ---- The text form ----
@@ -33,7 +33,8 @@ class Text:
     def __init__(self):
         self.sizes = {}
         self.lists = {}
-        self.line_of = {}
+        self.where = {}  # line and word of a size, and of the first request too many
+        self.begun = {}  # the line where a list begins
         self.open = None  # the list that a line without a name goes on with
 
     def take(self, line, words):
@@ -44,26 +45,27 @@ class Text:
         elif name in ("requests", "plan"):
             self.open = name
             self.lists.setdefault(name, [])
+            self.begun.setdefault(name, line)
             self.take_words(line, words[1:], 2)
         elif self.open:
             self.take_words(line, words, 1)
         else:
-            raise Refused(f"line {line}, word 1: '{shown(name)}' isn't n, m, requests or plan, and no list is begun")
+            raise Refused(f"line {line}, word 1: '{shown(name)}' isn't n, m, requests or plan, and no list goes on here")
 
     def take_size(self, line, name, rest):
         if name in self.sizes:
-            raise Refused(f"line {line}: {name} is given twice, first in line {self.line_of[name]}")
+            raise Refused(f"line {line}, word 1: {name} is given again; it stands in {self.where[name]}")
         if len(rest) != 1:
-            raise Refused(f"line {line}: {name} takes one number")
-        self.sizes[name] = parse_number(rest[0], line, 2)
-        self.line_of[name] = line
+            raise Refused(f"line {line}, word 1: {name} takes one number, and {len(rest)} words follow")
+        self.sizes[name] = parse_number(rest[0], line, 2, "a number of frames, 1 to 256")
+        self.where[name] = f"line {line}, word 2"
 
     def take_words(self, line, words, first):
         into = self.lists[self.open]
         for place, word in enumerate(words, first):
             into.append(parse_word(self.open, word, line, place))
             if len(into) == MOST_REQUESTS + 1:
-                self.line_of[self.open] = line
+                self.where[self.open] = f"line {line}, word {place}"
 
     def whole(self):
         """n, m, requests and plan (empty where none came)."""
@@ -75,7 +77,7 @@ class Text:
         requests = self.lists["requests"]
         plan = self.lists.get("plan", [])
         if "plan" in self.lists and len(plan) != len(requests):
-            raise Refused(f"the plan has {len(plan)} words, but there are {len(requests)} requests")
+            raise Refused(f"line {self.begun['plan']}: the plan that begins here has {len(plan)} words, but there are {len(requests)} requests")
         return self.sizes["n"], self.sizes["m"], requests, plan
 
 
@@ -90,9 +92,8 @@ def parse_text(text):
     whole = read.whole()
     try:
         judge_values(*whole)
-    except Refused as refusal:
-        line = read.line_of.get(refusal.about)
-        raise Refused(f"line {line}: {refusal}" if line else str(refusal)) from None
+    except RefusedByNumber as refusal:
+        raise Refused(f"{read.where[refusal.about]}: {refusal.words} (refusal {refusal.number})") from None
     return whole
 
 
@@ -109,18 +110,22 @@ def split_line(line, number):
     return words
 
 
-def parse_number(word, line, place):
-    digits = word.lstrip("0") or "0"
-    if word.isascii() and word.isdigit() and len(digits) <= 10 and int(digits) <= MARK:
-        return int(digits)
-    raise Refused(f"line {line}, word {place}: '{shown(word)}' isn't a number from 0 to {MARK - 1}")
+def parse_number(word, line, place, wanted):
+    if not (word.isascii() and word.isdigit()):
+        raise Refused(f"line {line}, word {place}: '{shown(word)}' isn't {wanted}")
+    if word[0] == "0" and word != "0":
+        # Mostly the rest of a number with a comma in it, which would be counted as a request of its own.
+        raise Refused(f"line {line}, word {place}: '{shown(word)}' has a zero in front; a comma ends a word, so write 1000, not 1,000")
+    if len(word) > 10 or int(word) > MARK:
+        raise Refused(f"line {line}, word {place}: '{shown(word)}' isn't {wanted}")
+    return int(word)
 
 
 def parse_word(name, word, line, place):
     """A page; in a plan also the mark, written as a dash."""
     if name == "plan" and word == "-":
         return MARK
-    number = parse_number(word, line, place)
+    number = parse_number(word, line, place, f"a page, 0 to {MARK - 1}" + (", or - for none" if name == "plan" else ""))
     if number == MARK:
         raise Refused(f"line {line}, word {place}: {MARK} is the mark, not a page")
     return number
@@ -149,6 +154,7 @@ class RefusedByNumber(Refused):
 
     def __init__(self, number, place, words, about=None):
         super().__init__(f"refused {number} at {place}: {words}")
+        self.number = number
         self.line = f"refused {number} at {place}"
         self.words = words
         self.about = about
@@ -205,5 +211,8 @@ def read_section(data, place, allowed, rule):
 
 def read_word(data, place):
     if place + 4 > len(data):
-        raise RefusedByNumber(9, place, f"the file ends after {len(data)} bytes, before this word is whole")
+        if not data:
+            raise RefusedByNumber(9, 0, "the file is empty")
+        where = "where another word should begin" if place == len(data) else f"inside the word that begins at byte {place}"
+        raise RefusedByNumber(9, place, f"the file ends after {len(data)} bytes, {where}")
     return int.from_bytes(data[place:place + 4], "little")

@@ -1,4 +1,4 @@
-"""What the commands of this folder share: --help, reading a file, writing one, and how trouble is told.
+"""What the commands of this folder share: their words, reading a file, writing one, and how trouble is told.
 
 Statuses: 0 done; 1 the input is refused; 2 it can't be done (wrong words, a file that can't be read or written).
 """
@@ -6,7 +6,8 @@ Statuses: 0 done; 1 the input is refused; 2 it can't be done (wrong words, a fil
 import codecs
 import contextlib
 import os
-import pathlib
+import select
+import shlex
 import signal
 import stat
 import sys
@@ -15,6 +16,7 @@ import tempfile
 REFUSED = 1
 TROUBLE = 2
 BUNDLE_READ = 65536  # bytes; the report program reads no more, and no bundle is longer
+closed = set()  # the standard streams that were closed when the command began
 
 
 class Refused(Exception):
@@ -25,33 +27,73 @@ class Trouble(Exception):
     """What keeps a command from its work; its words say what to do."""
 
 
+class Stopped(BaseException):
+    """A signal that ends the command, once what it has begun is ended too."""
+
+
 # ---- A command's frame ----
 
 
-def run(name, about, body):
-    """Runs a command on its words, and answers its status. `about` is what --help prints."""
-    # A reader that has gone away ends a command quietly, as it ends any other.
-    signal.signal(signal.SIGPIPE, signal.SIG_DFL)
-    fill_closed_streams()
-    words = sys.argv[1:]
+def run(name, about, most, body):
+    """Runs a command on its names, of which there may be so many, and answers its status. `about` is what --help prints."""
     try:
-        if "--help" in words or "-h" in words:
+        for number in (signal.SIGINT, signal.SIGTERM, signal.SIGHUP):
+            if signal.getsignal(number) != signal.SIG_IGN:
+                signal.signal(number, stop)
+        fill_closed_streams()
+        names = names_of(sys.argv[1:], most)
+        if names is None:
             write_output(about.strip().encode() + b"\n")
             return 0
-        return body(words)
+        return body(names)
     except Refused as refusal:
         say(f"{name}: {refusal}")
         return REFUSED
     except Trouble as trouble:
         say(f"{name}: {trouble}")
-        return TROUBLE
-    except KeyboardInterrupt:
-        return 130
+    except OSError as error:
+        say(f"{name}: {shown(str(error.filename), 200)}: {reason(error)}" if error.filename else f"{name}: {reason(error)}")
+    except Stopped as stopped:
+        end_by(stopped.args[0])
+    except Exception as error:  # noqa: BLE001
+        say(f"{name}: this shouldn't be, and is a mistake of the command: {type(error).__name__}: {shown(str(error), 200)}")
+    return TROUBLE
 
 
-def usage(about):
-    """The trouble of wrong words: what --help prints."""
-    return Trouble(f"wrong use.\n\n{about.strip()}")
+def names_of(words, most):
+    """The names among a command's words, or None where help is asked for."""
+    names = []
+    for place, word in enumerate(words):
+        if word == "--":
+            names += words[place + 1:]
+            break
+        if word in ("-h", "--help"):
+            return None
+        if word.startswith("-") and word != "-":
+            raise Trouble(f"there is no option {shown(word)}; --help tells what there is")
+        names.append(word)
+    if "" in names:
+        raise Trouble("a name is empty; --help tells what is named")
+    if len(names) > most:
+        raise Trouble(f"there are {len(names)} names, and {most} at most are taken; --help tells which")
+    return names
+
+
+def source_of(names):
+    """What is to be read: the first name, or standard input where something was put in."""
+    if not names and 0 not in closed and os.isatty(0):
+        raise Trouble("no file is named; give the path of one, or - for standard input (--help tells more)")
+    return names[0] if names else "-"
+
+
+def stop(number, _):
+    raise Stopped(number)
+
+
+def end_by(number):
+    """Ends as a command does that knows nothing of the signal."""
+    signal.signal(number, signal.SIG_DFL)
+    os.kill(os.getpid(), number)
 
 
 def say(words):
@@ -67,6 +109,7 @@ def fill_closed_streams():
             os.fstat(number)
         except OSError:
             os.open(os.devnull, os.O_RDONLY)
+            closed.add(number)
 
 
 def shown(word, most=40):
@@ -75,95 +118,172 @@ def shown(word, most=40):
     return plain if len(word) <= most else plain + "..."
 
 
+def called(name):
+    return "standard input" if name == "-" else shown(name, 200)
+
+
+def reason(error):
+    return error.strerror or str(error)
+
+
 # ---- Reading ----
 
 
 def read_input(name, most):
     """The first bytes of a file, at most so many; - is standard input."""
-    called = "standard input" if name == "-" else shown(name, 200)
+    if name == "-" and 0 in closed:
+        raise Trouble("standard input is closed; give the path of a file")
     try:
-        with open(0 if name == "-" else name, "rb", closefd=name != "-") as file:
-            return file.read(most)
+        file = 0 if name == "-" else os.open(name, os.O_RDONLY)
+        try:
+            return read_front(file, most)
+        finally:
+            if name != "-":
+                os.close(file)
     except FileNotFoundError:
-        raise Trouble(f"there is no file {called}; give the path of a file, or - for standard input") from None
+        raise Trouble(f"there is no file {called(name)}; give the path of a file, or - for standard input") from None
     except IsADirectoryError:
-        raise Trouble(f"{called} is a directory; give the path of a file in it") from None
-    except (OSError, ValueError) as error:
-        raise Trouble(f"{called} can't be read: {reason(error)}") from None
+        raise Trouble(f"{called(name)} is a directory; give the path of a file in it") from None
+    except OSError as error:
+        raise Trouble(f"{called(name)} can't be read: {reason(error)}") from None
+
+
+def read_front(file, most):
+    """Up to the end or so many bytes, also where the other side takes its time."""
+    parts = []
+    while most > 0:
+        try:
+            part = os.read(file, most)
+        except BlockingIOError:
+            select.select([file], [], [])
+            continue
+        if not part:
+            break
+        parts.append(part)
+        most -= len(part)
+    return b"".join(parts)
 
 
 def read_bundle_file(name):
-    """The bytes of what should be a bundle. No bundle is a text: its first word, 2, has zeros."""
+    """The bytes of what should be a bundle."""
     data = read_input(name, BUNDLE_READ)
-    if is_text(data):
-        called = "standard input" if name == "-" else shown(name, 200)
-        raise Trouble(f"{called} is a text, not a bundle; make a bundle of it by: tools/bundle_from_text {shown(name, 200)} NEW.bundle")
+    coding = text_coding(data)
+    if coding == "UTF-16":
+        raise Trouble(f"{called(name)} is a text in UTF-16, not a bundle; save it in UTF-8, then make a bundle of it by tools/bundle_from_text")
+    if coding:
+        tool = os.path.join(os.path.dirname(os.path.abspath(__file__)), "bundle_from_text")
+        tool = shlex.quote(min(tool, os.path.relpath(tool), key=len))
+        text = "TEXT" if name == "-" else shlex.quote(shown(name, 200))
+        raise Trouble(f"{called(name)} is a text, not a bundle; make a bundle of it by: {tool} {text} NEW.bundle")
     return data
 
 
-def is_text(data):
-    """Whether bytes, perhaps cut at the end, are text: printable in UTF-8, or in UTF-16 with its mark."""
-    coding = "utf-16" if data[:2] in (codecs.BOM_UTF16_LE, codecs.BOM_UTF16_BE) else "utf-8-sig"
+PRINTABLE = frozenset([*range(32, 127), *b"\t\n\f\r\x1a"])
+
+
+def text_coding(data):
+    """How bytes are written that are a text by their front, or None. No bundle is one: its first word, 2, has zeros and a control character."""
+    front = data[:256]
+    if front[:2] in (b"\xff\xfe", b"\xfe\xff"):
+        front = front[2:]
+    even, odd = front[0::2], front[1::2]
+    if len(front) > 1 and (plain(even, 1) and not any(odd) or plain(odd, 1) and not any(even)):
+        return "UTF-16"
+    # In another coding than UTF-8 most of a text is plain all the same.
+    return "UTF-8" if front and plain(front, 0 if is_utf8(front) else 0.75) else None
+
+
+def plain(front, share):
+    """Whether so much of it is printable ASCII, and nothing of it a control character."""
+    count = sum(byte in PRINTABLE for byte in front)
+    return count >= share * len(front) and all(byte in PRINTABLE or byte >= 128 for byte in front)
+
+
+def is_utf8(front):
+    """Whether bytes that may be cut in a character are UTF-8."""
     try:
-        text = codecs.getincrementaldecoder(coding)().decode(data)
+        codecs.getincrementaldecoder("utf-8")().decode(front)
     except UnicodeDecodeError:
         return False
-    return text != "" and all(c.isprintable() or c in "\t\n\r\f" for c in text)
-
-
-def reason(error):
-    return getattr(error, "strerror", None) or str(error)
+    return True
 
 
 # ---- Writing ----
 
 
 def write_output(data):
-    """Writes all bytes to standard output, or says why it can't."""
+    """Writes all bytes to standard output, or says why it can't. A reader that has gone away ends the command quietly."""
     try:
         while data:
-            data = data[os.write(1, data):]
+            try:
+                data = data[os.write(1, data):]
+            except BlockingIOError:
+                select.select([], [1], [])
+    except BrokenPipeError:
+        end_by(signal.SIGPIPE)
     except OSError as error:
         raise Trouble(f"standard output can't be written: {reason(error)}") from None
 
 
 def write_file(data, name, source):
     """Writes a file whole or leaves it as it was, and never over the file that was read; without a name, standard output."""
-    if same_file(name, source):
-        raise Trouble(f"{shown(source, 200)} is what is read; give another name to write to")
-    if name in (None, "-"):
+    if name in (None, "-") or same_file(name, 1, stat.S_ISREG):
+        name = 1
+    if same_file(name, 0 if source == "-" else source, stat.S_ISREG):
+        raise Trouble(f"{called(source)} is what is read; give another name to write to")
+    if name == 1:
         return write_output(data)
     try:
         if os.path.exists(name) and not os.path.isfile(name):
             # A device or a pipe has no file to put in its place.
-            pathlib.Path(name).write_bytes(data)
+            write_through(name, data)
         else:
-            replace(pathlib.Path(os.path.realpath(name)), data)
-    except (OSError, ValueError) as error:
+            replace(os.path.realpath(name), data)
+    except OSError as error:
         raise Trouble(f"{shown(name, 200)} can't be written: {reason(error)}") from None
 
 
+def write_through(name, data):
+    with open(name, "wb", buffering=0) as file:
+        while data:
+            data = data[file.write(data):]
+
+
 def replace(path, data):
-    """Puts a new file in the place of an old one, with the old one's mode."""
-    umask = os.umask(0)
-    os.umask(umask)
-    mode = stat.S_IMODE(path.stat().st_mode) if path.exists() else 0o666 & ~umask
-    number, new = tempfile.mkstemp(prefix=".new-", dir=path.parent)
+    """Puts a new file in the place of an old one, with the old one's mode and owner."""
+    old = os.stat(path) if os.path.exists(path) else None
+    if old and not os.access(path, os.W_OK):
+        raise PermissionError(None, "Permission denied")
+    try:
+        number, new = tempfile.mkstemp(prefix=".new-", dir=os.path.dirname(path))
+    except PermissionError:
+        if not old:
+            raise
+        # A folder that takes no new file leaves only the old one's own room.
+        return write_through(path, data)
     try:
         with open(number, "wb") as file:
             file.write(data)
-        os.chmod(new, mode)
+        if old:
+            with contextlib.suppress(PermissionError):
+                os.chown(new, old.st_uid, old.st_gid)
+        os.chmod(new, stat.S_IMODE(old.st_mode) if old else 0o666 & ~umask())
         os.replace(new, path)
     except BaseException:
         os.unlink(new)
         raise
 
 
-def same_file(name, source):
-    """Whether two names, or the standard streams that - or no name stands for, are one file on a disk."""
+def umask():
+    mask = os.umask(0)
+    os.umask(mask)
+    return mask
+
+
+def same_file(one, other, kind):
+    """Whether two names or numbers are one file, of this kind."""
     try:
-        one = os.stat(1 if name in (None, "-") else name)
-        other = os.stat(0 if source == "-" else source)
-    except (OSError, ValueError):
+        first, second = os.stat(one), os.stat(other)
+    except OSError:
         return False
-    return stat.S_ISREG(one.st_mode) and os.path.samestat(one, other)
+    return kind(first.st_mode) and os.path.samestat(first, second)

@@ -5,11 +5,14 @@
 #define _GNU_SOURCE
 #include "../../include/hedravos.h"
 
+#include <errno.h>
+#include <fcntl.h>
 #include <pthread.h>
 #include <stdio.h>
 #include <stdlib.h>
 #include <string.h>
 #include <sys/socket.h>
+#include <sys/wait.h>
 #include <unistd.h>
 
 #if __BYTE_ORDER__ != __ORDER_LITTLE_ENDIAN__
@@ -42,20 +45,37 @@ static _Noreturn void stop(const char *function, const char *what) {
     abort();
 }
 
-// A program that has forked gets a server of its own.
+// A program that has forked gets a server of its own, whatever its other threads were doing.
+static void forget_server(void) {
+    if (owner != 0) close(server);
+    owner = 0;
+    message = NULL;
+    turn = (pthread_mutex_t)PTHREAD_MUTEX_INITIALIZER;
+}
+
+// Becomes the server, out of reach of the program's own children and of what is typed at its terminal.
+static void serve(int socket) {
+    int end = fcntl(socket, F_DUPFD, 3);
+    if (setsid() < 0 || fork() != 0) _exit(0);
+    dup2(end, 0);
+    dup2(end, 1);
+    close(end);
+    execl(TOOLS "/bin/qemu-x86_64", "qemu-x86_64", "-cpu", "qemu64", TOOLS "/lib/ld-linux-x86-64.so.2", "--library-path",
+          TOOLS "/lib", SERVER, (char *)NULL);
+    _exit(127);
+}
+
 static void start_server(const char *function) {
+    static int watched;
     int ends[2];
     if (owner == getpid()) return;
+    if (!watched && pthread_atfork(NULL, NULL, forget_server) != 0) stop(function, "can't be started");
+    watched = 1;
     if (socketpair(AF_UNIX, SOCK_STREAM | SOCK_CLOEXEC, 0, ends) != 0) stop(function, "can't be reached");
     pid_t child = fork();
     if (child < 0) stop(function, "can't be started");
-    if (child == 0) {
-        dup2(ends[1], 0);
-        dup2(ends[1], 1);
-        execl(TOOLS "/bin/qemu-x86_64", "qemu-x86_64", "-cpu", "qemu64", TOOLS "/lib/ld-linux-x86-64.so.2",
-              "--library-path", TOOLS "/lib", SERVER, (char *)NULL);
-        _exit(127);
-    }
+    if (child == 0) serve(ends[1]);
+    while (waitpid(child, NULL, 0) < 0 && errno == EINTR) {}
     close(ends[1]);
     server = ends[0];
     owner = getpid();
@@ -64,6 +84,7 @@ static void start_server(const char *function) {
 static void give(const char *function, const char *from, size_t bytes) {
     while (bytes > 0) {
         ssize_t gone = send(server, from, bytes, MSG_NOSIGNAL);
+        if (gone < 0 && errno == EINTR) continue;
         if (gone <= 0) stop(function, "takes no call");
         from += gone;
         bytes -= gone;
@@ -102,6 +123,7 @@ static void take_answer(const char *function, const struct list *lists, uint32_t
     for (uint32_t i = 0; i < count; i++) awaited += lists[i].written * lists[i].length * lists[i].element;
     for (size_t have = 0; have < awaited;) {
         ssize_t come = recv(server, message + have, awaited - have, 0);
+        if (come < 0 && errno == EINTR) continue;
         if (come <= 0) stop(function, "gives no answer");
         have += come;
         if (have < sizeof head) continue;
