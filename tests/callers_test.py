@@ -1,4 +1,5 @@
-"""Tries what a newcomer and a caller in another language get: the header against the code, README's and the reference's examples, the example in C.
+"""Tries what a newcomer and a caller in another language get: the header and the reference's tables against the code,
+the examples of README and of the reference, and programs in C.
 
     python3 tests/callers_test.py
 
@@ -74,21 +75,28 @@ def upper(name):
     return re.sub(r"(?<=[a-z0-9])(?=[A-Z])", "_", name).upper()
 
 
-def the_header():
-    case("the header has every exported function", exported() == declared() and len(declared()) == 12, str(set(exported()) ^ set(declared())))
-    numbers = constants()
+def refusals():
+    """The refusals of the table that the promises go by, each with its number, as the header writes it."""
     rows = re.findall(r"^table \(?(\w+).* = row (\d+) ", code("paging/specs/Refusals.antt"), re.M)
-    case("the table has twelve refusals", len(rows) == 12)
-    for name, number in rows:
-        case(f"the header's {name}", numbers.pop(upper(name), None) == int(number))
+    return {upper(name): int(number) for name, number in rows}
+
+
+def the_header():
+    apart = set(exported()) ^ set(declared())
+    case("the header has every exported function", exported() and exported() == declared(), str(apart))
+    numbers = constants()
+    in_code = re.findall(r"Refusal::(\w+)(?:\(_\))? => ([1-9]\d*),", code("paging/src/lib.rt"))
+    case("every refusal has its row", {upper(name) for name, _ in in_code} == set(refusals()))
+    for name, number in refusals().items():
+        case(f"the header's {name}", numbers.pop(name, None) == number)
     for number, name in re.findall(r"\(eqb number (\d)\) \(Is (\w+)\)", code("paging/specs/Rules.antt")):
         case(f"the header's rule {name}", numbers.pop(name.upper(), None) == int(number))
     for name, kind in re.findall(r"^replyNumbers \(?(\w+).*kind = (\d)", code("cache/specs/Feed.antt"), re.M):
         case(f"the header's kind {name}", numbers.pop(name.upper(), None) == int(kind))
     limits = dict(re.findall(r"pub const (\w+): \w+ = (\d+);", code("calls/src/lib.rt")))
     frames, requests = int(limits["FRAMES"]), int(limits["REQUESTS"])
-    rest = {"FRAMES": frames, "REQUESTS": requests, "RECORD_WORDS": 4 + 4 * frames, "FILE_BYTES": 4 * (2 + 3 + 2 * requests), "REPORT_BYTES": 256}
-    case("the header's limits, and nothing else", numbers == rest, str(numbers))
+    sizes = {"RECORD_WORDS": 4 + 4 * frames, "FILE_BYTES": 4 * (2 + 3 + 2 * requests), "REPORT_BYTES": 256}
+    case("the header's limits, and nothing else", numbers == {"FRAMES": frames, "REQUESTS": requests} | sizes, str(numbers))
     case("the header's mark", f"HEDRAVOS_MARK UINT32_C({MARK})" in HEADER and f"MARK: u32 = {MARK};" in code("paging/src/lib.rt"))
 
 
@@ -103,9 +111,7 @@ def refusals_told(text):
 
 def the_tables():
     rows = table_under("Refusals")
-    told = {cells[1].strip("`"): int(cells[0]) for cells in rows}
-    names = {name: number for name, number in constants().items() if name in told}
-    case("the reference has the header's refusals", told == names and len(rows) == 12)
+    case("the reference has every refusal", {cells[1].strip("`"): int(cells[0]) for cells in rows} == refusals())
     case("each with a sentence in every column", all(len(cells) == 5 and all(cells) for cells in rows))
     comments = re.findall(r"/\*((?:(?!\*/).)*)\*/\s*void (\w+)\(", HEADER, re.S)
     in_header = {name: refusals_told(text.split("Refusals:")[1]) if "Refusals:" in text else [] for text, name in comments}
@@ -118,9 +124,11 @@ def the_tables():
         if line.startswith("- Refusals:"):
             in_reference[name] = refusals_told(line.split(":", 1)[1])
     for name in declared():
-        case(f"the refusals of {name}", in_header.get(name) == in_reference.get(name, None), f"{in_header.get(name)} {in_reference.get(name)}")
+        one, other = in_header.get(name), in_reference.get(name)
+        case(f"the refusals of {name}", one is not None and one == other, f"{one} {other}")
     limits = " ".join(cells[1] for cells in table_under("Limits")).replace(",", "")
-    case("the reference's limits", all(str(constants()[name]) in limits for name in ("FRAMES", "REQUESTS", "RECORD_WORDS", "FILE_BYTES", "REPORT_BYTES")))
+    names = ("FRAMES", "REQUESTS", "RECORD_WORDS", "FILE_BYTES", "REPORT_BYTES")
+    case("the reference's limits", all(str(constants()[name]) in limits for name in names))
 
 
 def the_examples():

@@ -1,7 +1,7 @@
 """Building with `rt`, for the commands of this folder: one at a time, only where a source has changed, with progress.
 
-What is built is noted in target/built/NAME: the state of its sources, that of the files made, and some words, as those to run
-a program by. So what is built runs without `rt`, and commands at the same time don't break each other's work.
+What is built is noted in target/built/NAME: the state of its sources, that of the files made, and some words, as those
+to run a program by. So what is built runs without `rt`, and commands at the same time don't break each other's work.
 """
 
 import contextlib
@@ -27,7 +27,7 @@ BUILT = ROOT / "target" / "built"
 
 @contextlib.contextmanager
 def locked():
-    """Holds the lock on this folder's target/, and answers its number. `rt ci` removes target/, so the lock is on the folder that it is in."""
+    """Holds the lock on target/, and answers its number. `rt ci` removes target/, so it is the folder above that is locked."""
     lock = os.open(ROOT, os.O_RDONLY)
     try:
         try:
@@ -111,7 +111,7 @@ def reached(names):
 
 
 class Build:
-    """One build, under the lock: says which crate of how many is proved, once for each; what the prover says goes to a log."""
+    """One build, under the lock: says which crate of how many is proved; what the prover says goes to a log."""
 
     def __init__(self, name, crates, lock):
         self.name = name
@@ -123,7 +123,8 @@ class Build:
             BUILT.mkdir(parents=True, exist_ok=True)
             self.log = open(ROOT / "target" / f"{name}.log", "w")
         except OSError as error:
-            raise Trouble(f"the {name} isn't built yet, and {ROOT / 'target'} can't be written: {reason(error)}; run it once as a user who may write there") from None
+            why = f"the {name} isn't built yet, and {ROOT / 'target'} can't be written: {reason(error)}"
+            raise Trouble(f"{why}; run it once as a user who may write there") from None
         say(f"building the {name}, {len(crates)} crates; what isn't proved yet takes some minutes")
 
     def proved(self, crate):
@@ -184,7 +185,8 @@ def rt_path(what):
     home = os.environ.get("RATTLE_HOME")
     path = shutil.which("rt") or (home and shutil.which("rt", path=f"{home}/bin"))
     if not path:
-        raise Trouble(f"the {what} isn't built yet, and rt, which builds it, isn't on the path: install the Rattle kit and put its bin folder on the path")
+        why = f"the {what} isn't built yet, and rt, which builds it, isn't on the path"
+        raise Trouble(f"{why}: install the Rattle kit and put its bin folder on the path")
     return path
 
 
@@ -195,11 +197,13 @@ def kit(rt):
 
 
 def to_run(rt, program):
-    """The words that run a built program. It is for x86-64; elsewhere the kit has an emulator, told to be the plain processor, for which records are copied fast."""
+    """The words that run a built program. It is for x86-64; elsewhere the kit has an emulator."""
     if platform.machine() == "x86_64":
         return [program]
     tools = kit(rt) / "toolchain"
-    words = [tools / "bin/qemu-x86_64", "-cpu", "qemu64", tools / "lib/ld-linux-x86-64.so.2", "--library-path", tools / "lib", program]
+    # Told to be the plain processor, it copies records fast.
+    emulator = [tools / "bin/qemu-x86_64", "-cpu", "qemu64"]
+    words = [*emulator, tools / "lib/ld-linux-x86-64.so.2", "--library-path", tools / "lib", program]
     missing = [word for word in words if isinstance(word, pathlib.Path) and not word.exists()]
     if missing:
         raise Trouble(f"the kit has no {missing[0]}, which runs programs for x86-64 on this machine")

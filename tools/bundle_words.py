@@ -77,7 +77,8 @@ class Text:
         requests = self.lists["requests"]
         plan = self.lists.get("plan", [])
         if "plan" in self.lists and len(plan) != len(requests):
-            raise Refused(f"line {self.begun['plan']}: the plan that begins here has {len(plan)} words, but there are {len(requests)} requests")
+            lengths = f"has {len(plan)} words, but there are {len(requests)} requests"
+            raise Refused(f"line {self.begun['plan']}: the plan that begins here {lengths}")
         return self.sizes["n"], self.sizes["m"], requests, plan
 
 
@@ -115,7 +116,8 @@ def parse_number(word, line, place, wanted):
         raise Refused(f"line {line}, word {place}: '{shown(word)}' isn't {wanted}")
     if word[0] == "0" and word != "0":
         # Mostly the rest of a number with a comma in it, which would be counted as a request of its own.
-        raise Refused(f"line {line}, word {place}: '{shown(word)}' has a zero in front; a comma ends a word, so write 1000, not 1,000")
+        why = "has a zero in front; a comma ends a word, so write 1000, not 1,000"
+        raise Refused(f"line {line}, word {place}: '{shown(word)}' {why}")
     if len(word) > 10 or int(word) > MARK:
         raise Refused(f"line {line}, word {place}: '{shown(word)}' isn't {wanted}")
     return int(word)
@@ -183,10 +185,10 @@ def write_bundle(n, m, requests, plan):
 
 def read_bundle(data):
     """Refuses in the reader's order: 9, 10 and 11 front to back, then 2, 12, 4."""
-    (n, m), place = read_section(data, 0, lambda count: count == 2, "a bundle begins with the count 2 of its sizes")
-    requests, place = read_section(data, place, lambda count: count <= MOST_REQUESTS, "there may be 8000 requests at most")
-    allowed = (0, len(requests))
-    plan, place = read_section(data, place, lambda count: count in allowed, f"a plan has 0 words or {len(requests)}, as there are requests")
+    (n, m), place = read_section(data, 0, [2], "a bundle begins with the count 2 of its sizes")
+    requests, place = read_section(data, place, range(MOST_REQUESTS + 1), "there may be 8000 requests at most")
+    all_of_them = len(requests)
+    plan, place = read_section(data, place, [0, all_of_them], f"a plan has 0 words or {all_of_them}, as there are requests")
     if place < len(data):
         raise RefusedByNumber(11, place, "there are bytes behind the plan, where a bundle ends")
     for name, size, byte in (("n", n, 4), ("m", m, 8)):
@@ -203,7 +205,7 @@ def read_bundle(data):
 def read_section(data, place, allowed, rule):
     """The section's words, and the place after them."""
     count = read_word(data, place)
-    if not allowed(count):
+    if count not in allowed:
         raise RefusedByNumber(10, place, f"the count is {count}, but {rule}")
     words = [read_word(data, place + 4 + 4 * i) for i in range(count)]
     return words, place + 4 + 4 * count

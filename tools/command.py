@@ -169,7 +169,8 @@ def read_bundle_file(name):
     data = read_input(name, BUNDLE_READ)
     coding = text_coding(data)
     if coding == "UTF-16":
-        raise Trouble(f"{called(name)} is a text in UTF-16, not a bundle; save it in UTF-8, then make a bundle of it by tools/bundle_from_text")
+        what_to_do = "save it in UTF-8, then make a bundle of it by tools/bundle_from_text"
+        raise Trouble(f"{called(name)} is a text in UTF-16, not a bundle; {what_to_do}")
     if coding:
         tool = os.path.join(os.path.dirname(os.path.abspath(__file__)), "bundle_from_text")
         tool = shlex.quote(min(tool, os.path.relpath(tool), key=len))
@@ -182,7 +183,7 @@ PRINTABLE = frozenset([*range(32, 127), *b"\t\n\f\r\x1a"])
 
 
 def text_coding(data):
-    """How bytes are written that are a text by their front, or None. No bundle is one: its first word, 2, has zeros and a control character."""
+    """How bytes are written that are a text by their front, or None. No bundle is one: it begins with a control character."""
     front = data[:256]
     if front[:2] in (b"\xff\xfe", b"\xfe\xff"):
         front = front[2:]
