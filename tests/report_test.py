@@ -300,14 +300,13 @@ def stopping(made, source):
     """A command that is stopped while it builds stops the build too."""
     for number in (signal.SIGINT, signal.SIGTERM):
         source.write_text(f"// stopped by {number}\n")
-        before = made.calls()
+        before, ended = made.calls(), made.calls("ended")
         stopped = started(made.root, BUNDLE, env=made.environment(), start_new_session=True)
         while made.calls() == before:
             time.sleep(0.01)
         os.killpg(stopped.pid, number)
         told = stopped.communicate()[1]
         case(f"stopped by {number}", stopped.returncode == -number and b"Traceback" not in told, told.decode())
-        ended = made.calls("ended")
         time.sleep(1)
         case("the build is stopped too", made.calls("ended") == ended)
         shutil.rmtree(f"{made.rt}.running", ignore_errors=True)
