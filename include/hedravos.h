@@ -2,9 +2,9 @@
  * Hedravos for callers in C: counts of cache faults, eviction plans, a cache record, bundle files and their report.
  * docs/REFERENCE.md tells it all at length; tools/library makes the library to link with.
  *
- * Lists. A list is a pointer and its length in elements, words of 32 bits or bytes. The length told must be there, a list
- * that is written may not overlap another one, and nobody else may touch it before the call returns. An empty list may
- * come with any pointer, NULL too.
+ * Lists. A list is a pointer and its length in elements, words of 32 bits or bytes. Behind the pointer stand as many
+ * elements as told, words at multiples of 4. A list that is written may not overlap another one; and before the call
+ * returns nobody else may write to a list, or read one that is written. An empty list may come with any pointer, NULL too.
  *
  * Answers. A function lays its numbers over the front of `answer`, in the order told here. Where `answer` is shorter,
  * the last ones are left out; where it is longer, its other words stay as they were.

@@ -11,6 +11,7 @@ import pathlib
 import re
 import shlex
 import shutil
+import struct
 import subprocess
 import sys
 import tempfile
@@ -109,26 +110,40 @@ def refusals_told(text):
     return [int(number) for number in re.findall(r"\d+", first)]
 
 
+def orders():
+    """The refusals of each function in their order, as the reference tells them."""
+    found = {}
+    for line in REFERENCE.split("\n## Services\n")[1].split("\n## ")[0].splitlines():
+        function = re.search(r"`(hedravos_\w+)`", line)
+        if function:
+            name = function[1]
+        if line.startswith("- Refusals:"):
+            found[name] = refusals_told(line.split(":", 1)[1])
+    return found
+
+
 def the_tables():
     rows = table_under("Refusals")
     case("the reference has every refusal", {cells[1].strip("`"): int(cells[0]) for cells in rows} == refusals())
     case("each with a sentence in every column", all(len(cells) == 5 and all(cells) for cells in rows))
     comments = re.findall(r"/\*((?:(?!\*/).)*)\*/\s*void (\w+)\(", HEADER, re.S)
     in_header = {name: refusals_told(text.split("Refusals:")[1]) if "Refusals:" in text else [] for text, name in comments}
-    services = REFERENCE.split("\n## Services\n")[1].split("\n## ")[0]
-    in_reference = {}
-    for line in services.splitlines():
-        function = re.search(r"`(hedravos_\w+)`", line)
-        if function:
-            name = function[1]
-        if line.startswith("- Refusals:"):
-            in_reference[name] = refusals_told(line.split(":", 1)[1])
     for name in declared():
-        one, other = in_header.get(name), in_reference.get(name)
+        one, other = in_header.get(name), orders().get(name)
         case(f"the refusals of {name}", one is not None and one == other, f"{one} {other}")
-    limits = " ".join(cells[1] for cells in table_under("Limits")).replace(",", "")
-    names = ("FRAMES", "REQUESTS", "RECORD_WORDS", "FILE_BYTES", "REPORT_BYTES")
-    case("the reference's limits", all(str(constants()[name]) in limits for name in names))
+    told = {cells[0]: re.sub(r"(?<=\d),(?=\d)", "", cells[1]) for cells in table_under("Limits")}
+    is_so = constants()
+    for what, limit in {
+        "frames of a cache": f"1 to {is_so['FRAMES']}",
+        "requests of a trace": f"0 to {is_so['REQUESTS']}",
+        "pages": f"0 to {MARK - 1}",
+        "requests that one cache record serves": f"{is_so['REQUESTS']}",
+        "bytes of a bundle file": f"{is_so['FILE_BYTES']} at most; the report program reads 65536 and no more",
+        "bytes of a report": f"{is_so['REPORT_BYTES']} at most",
+        "words of a cache record": f"{is_so['RECORD_WORDS']}",
+    }.items():
+        case(f"the reference's limit: {what}", told.pop(what, None) == limit)
+    case("no other limit", not told)
 
 
 def the_examples():
@@ -147,6 +162,65 @@ def the_examples():
     case("the text form", done.stdout == example())
 
 
+def the_orders():
+    """Calls with everything wrong, then with one thing right after the other: the numbers come in the order told."""
+    library = ctypes.CDLL(str(LIBRARY / "libhedravos.so"))
+    marks, long, good = [MARK], [MARK] * 8001, [1, 2]
+    full, fine = record(8000), record(1)
+    file = example()
+    calls = {
+        "count": [(5, 0, long), (1, 0, long), (1, 1, long), (1, 1, marks)],
+        "plan": [(5, 0, long, []), (1, 0, long, []), (1, 1, long, []), (1, 1, marks, []), (1, 1, good, [])],
+        "check": [(0, long, []), (1, long, []), (1, marks, []), (1, good, []), (1, good, [1, 1])],
+        "better": [(0, long, [], []), (1, long, [], []), (1, marks, [], []), (1, good, [], [1, 1]), (1, good, [1, 1], [])],
+        "better_words": [],
+        "fresh": [(3, 0, []), (1, 0, []), (1, 1, [])],
+        "sound": [],
+        "feed": [([], MARK, []), (full, MARK, []), (full, 5, []), (fine, 5, [])],
+        "feed_own": [([], MARK), (full, MARK), (full, 5)],
+        "read": [
+            (b"", [], []),
+            (struct.pack("<I", 3), [], []),
+            (struct.pack("<6I", 2, 0, 300, 1, MARK, 0) + b"\0", [], []),
+            (struct.pack("<6I", 2, 0, 300, 1, MARK, 0), [], []),
+            (struct.pack("<6I", 2, 3, 4, 1, MARK, 0), [], []),
+            (struct.pack("<6I", 2, 3, 2, 1, MARK, 0), [], []),
+            (file, [], []),
+        ],
+        "write": [
+            (0, 300, long, [1], b""),
+            (3, 4, long, [1], b""),
+            (3, 2, long, [1], b""),
+            (3, 2, [1, MARK], [1], b""),
+            (3, 2, good, [1], b""),
+            (3, 2, good, [], b""),
+        ],
+        "report": [],
+    }
+    for name, rows in calls.items():
+        numbers = [called(library, name, *row) for row in rows]
+        case(f"the order of hedravos_{name}", numbers == orders().get(f"hedravos_{name}"), str(numbers))
+    case("the order of every function", {f"hedravos_{name}" for name in calls} == set(declared()))
+
+
+def record(clock):
+    """A sound record of LRU with one frame, which holds page 5."""
+    return [1, 1, clock, 1, 5, 0, 0, MARK] + [MARK] * (4 * 255)
+
+
+def called(library, name, *arguments):
+    """The number that a function answers."""
+    sent = []
+    for argument in (*arguments, [0] * 6):
+        if isinstance(argument, int):
+            sent.append(ctypes.c_uint32(argument))
+        else:
+            kind = ctypes.c_uint8 if isinstance(argument, bytes) else ctypes.c_uint32
+            sent += [(kind * len(argument))(*argument), ctypes.c_size_t(len(argument))]
+    getattr(library, f"hedravos_{name}")(*sent)
+    return sent[-2][0]
+
+
 def planned(library, rule, n, requests):
     trace, plan, answer = ((ctypes.c_uint32 * length)() for length in (len(requests), len(requests), 3))
     trace[:] = requests
@@ -163,15 +237,15 @@ def the_lines():
             done = subprocess.run([sys.executable, "-"], input=text, cwd=ROOT, capture_output=True, text=True)
             case("the lines in Python", (done.returncode, done.stdout) == (0, output), done.stderr)
         if kind == "sh":
-            shown = [shell(line) for line in text.splitlines()]
+            shown = [shell(*shlex.split(line)) for line in text.splitlines()]
             case("the lines for C", [status for status, _, _ in shown] == [0] * 3 and shown[-1][1] == output, str(shown))
     case("lines of each kind", {"python", "sh"} <= {kind for kind, _ in found})
     first, shown = (text for _, text in blocks(README)[:2])
-    case("README's first run", shell(first)[:2] == (0, shown) and shown in [text for _, text in found])
+    case("README's first run", shell(*shlex.split(first))[:2] == (0, shown) and shown in [text for _, text in found])
 
 
-def shell(line):
-    done = subprocess.run(shlex.split(line), cwd=ROOT, capture_output=True, text=True)
+def shell(*words):
+    done = subprocess.run(words, cwd=ROOT, capture_output=True, text=True)
     return done.returncode, done.stdout, done.stderr
 
 
@@ -234,11 +308,11 @@ def counts(program):
         ("1 3 -5", 2, ""),
         ("1 3 4294967296", 2, ""),
     ]:
-        case(f"count {words[:40]}", shell(f"{program} {words}")[:2] == (status, output))
+        case(f"count {words[:40]}", shell(program, *words.split())[:2] == (status, output))
     with open("/dev/full", "w") as full:
         case("count on a full disk", subprocess.run([program], stdout=full, stderr=subprocess.DEVNULL).returncode == 2)
 
 
 if __name__ == "__main__":
     subprocess.run([str(ROOT / "tools/library")], check=True, stdout=subprocess.DEVNULL)
-    sys.exit(run(the_header, the_tables, the_examples, the_lines, in_c))
+    sys.exit(run(the_header, the_tables, the_orders, the_examples, the_lines, in_c))

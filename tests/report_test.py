@@ -8,6 +8,7 @@ How it builds is tried with a kit that is made up: an `rt` that notes each call,
 import os
 import pathlib
 import platform
+import shlex
 import shutil
 import signal
 import subprocess
@@ -116,7 +117,7 @@ def wrong_files(root=ROOT):
     text = str(ROOT / "examples" / "first.txt")
     trouble("no such file", report("no-such-file", root=root), "there is no file no-such-file; give")
     trouble("a directory", report(str(ROOT / "examples"), root=root), "is a directory; give")
-    trouble("a text", report(text, root=root), f"tools/bundle_from_text {text} NEW.bundle")
+    trouble("a text", report(text, root=root), f"tools/bundle_from_text {shlex.quote(text)} NEW.bundle")
     trouble("a text as input", report("-", root=root, input=b"requests 5\n"), "standard input is a text")
     for name, data in [
         ("a short text", b"n 3"),
@@ -127,12 +128,12 @@ def wrong_files(root=ROOT):
         ("a text with zeros far behind", b"requests 5 6 7\n" * 20 + b"\0"),
     ]:
         trouble(name, report("-", root=root, input=data), "is a text, not a bundle; make")
-    for name in ("utf-16", "utf-16-le", "utf-16-be"):
-        trouble(f"a text in {name}", report("-", root=root, input="n 3\n".encode(name)), "is a text in UTF-16, not a bundle; save it in UTF-8")
+    for name, line in [("utf-16", "# für\n"), ("utf-16-le", "n 3\n"), ("utf-16-be", "n 3\n")]:
+        trouble(f"a text in {name}", report("-", root=root, input=line.encode(name)), "is a text in UTF-16, not a bundle; save")
     trouble("too many words", report("a", "b", root=root), "there are 2 names")
     trouble("an option that isn't", report("--nope", root=root), "there is no option --nope")
     trouble("an empty name", report("", root=root), "a name is empty")
-    closed = subprocess.run(["sh", "-c", f"exec {root}/tools/report <&-"], capture_output=True)
+    closed = subprocess.run(["sh", "-c", 'exec "$0" <&-', str(root / "tools/report")], capture_output=True)
     trouble("no input at all", (closed.returncode, closed.stdout, closed.stderr.decode()), "standard input is closed")
 
 
@@ -146,7 +147,7 @@ def outputs_that_fail():
     done = subprocess.run(command, stdout=into, stderr=subprocess.PIPE)
     os.close(into)
     case("report: a closed pipe", (done.returncode, done.stderr) == (-signal.SIGPIPE, b""))
-    done = subprocess.run(["sh", "-c", f"exec {command[0]} {BUNDLE} >&-"], capture_output=True)
+    done = subprocess.run(["sh", "-c", 'exec "$0" "$1" >&-', *command], capture_output=True)
     case("report: no output at all", done.returncode == 2 and b"can't be written" in done.stderr)
 
 
@@ -169,7 +170,8 @@ def two_really_at_once():
 
 
 def started(root, *arguments, **more):
-    return subprocess.Popen([str(root / "tools" / "report"), *arguments], stdin=subprocess.DEVNULL, stdout=subprocess.PIPE, stderr=subprocess.PIPE, **more)
+    streams = {"stdin": subprocess.DEVNULL, "stdout": subprocess.PIPE, "stderr": subprocess.PIPE}
+    return subprocess.Popen([str(root / "tools" / "report"), *arguments], **streams, **more)
 
 
 # ---- Building, with a kit that is made up ----
@@ -212,6 +214,8 @@ class MadeUp:
         self.rt = self.script("kit/bin/rt", RT)
         self.emulator = self.script(f"kit/on/{platform.machine()}/toolchain/bin/qemu-x86_64", EMULATOR)
         self.script(f"kit/on/{platform.machine()}/toolchain/lib/ld-linux-x86-64.so.2", "")
+        self.bare = self.script("bare/python3", f'#!/bin/sh\nexec {shlex.quote(sys.executable)} "$@"\n').parent
+        (self.bare / "cat").symlink_to(shutil.which("cat"))
         self.tell("prints", "echo printed")
         # A file's time and a build's are told apart once the clock has moved.
         time.sleep(0.05)
@@ -231,10 +235,9 @@ class MadeUp:
         return len(path.read_text().splitlines()) if path.exists() else 0
 
     def environment(self, with_rt=True):
-        path = os.environ["PATH"].split(":")
-        path = [folder for folder in path if not os.path.exists(f"{folder}/rt")]
+        """With the kit in front; or with what the command itself and the program need, and no `rt`."""
         here = {name: value for name, value in os.environ.items() if name != "RATTLE_HOME"}
-        return here | {"PATH": ":".join([str(self.rt.parent)] * with_rt + path)}
+        return here | {"PATH": f"{self.rt.parent}:{here['PATH']}" if with_rt else str(self.bare)}
 
     def report(self, *arguments, with_rt=True):
         return report(*(arguments or [BUNDLE]), root=self.root, env=self.environment(with_rt))
@@ -279,9 +282,7 @@ def rebuilding(made):
     ended = [(one.communicate()[0], one.returncode) for one in several]
     case("four at once build once", ended == [(b"again\n", 0)] * 4 and made.calls() == 8, str(ended))
     source.write_text("// stopped\n")
-    stopped = started(made.root, BUNDLE, env=made.environment())
-    while made.calls() == 8:
-        time.sleep(0.01)
+    stopped = building_now(made)
     stopped.kill()
     stopped.communicate()
     case("one that was stopped breaks nothing", made.report()[:2] == (0, b"again\n") and made.calls() == 10)
@@ -296,14 +297,21 @@ def rebuilding(made):
         trouble(name, made.report(), "the report program ended with status")
 
 
+def building_now(made, **more):
+    """A command that has called `rt`, or has ended."""
+    before = made.calls()
+    one = started(made.root, BUNDLE, env=made.environment(), **more)
+    while made.calls() == before and one.poll() is None:
+        time.sleep(0.01)
+    return one
+
+
 def stopping(made, source):
     """A command that is stopped while it builds stops the build too."""
     for number in (signal.SIGINT, signal.SIGTERM):
         source.write_text(f"// stopped by {number}\n")
-        before, ended = made.calls(), made.calls("ended")
-        stopped = started(made.root, BUNDLE, env=made.environment(), start_new_session=True)
-        while made.calls() == before:
-            time.sleep(0.01)
+        ended = made.calls("ended")
+        stopped = building_now(made, start_new_session=True)
         os.killpg(stopped.pid, number)
         told = stopped.communicate()[1]
         case(f"stopped by {number}", stopped.returncode == -number and b"Traceback" not in told, told.decode())

@@ -11,8 +11,12 @@ import struct
 import subprocess
 import sys
 import tempfile
+from unittest import mock
 
 from tally import ROOT, case, run
+
+sys.path.insert(0, str(ROOT / "tools"))
+import command  # noqa: E402
 
 MARK = 4294967295
 TEXT = "n 3\nm 2\nrequests 5 6 7\n"
@@ -42,8 +46,8 @@ def example():
 
 
 def sentence(name, told):
-    """One line that begins with the tool's name, and no traceback."""
-    return told.startswith(f"{name}: ") and told.endswith("\n") and "Traceback" not in told
+    """One line that begins with the tool's name."""
+    return told.startswith(f"{name}: ") and told.endswith("\n") and told.count("\n") == 1
 
 
 def the_example():
@@ -232,46 +236,68 @@ def files_written():
             file.write(b" after")
         case("standard output by its name", out.read_bytes() == b"before " + made + b" after")
         case("a pipe by its name", tool("bundle_from_text", b"", str(text), "/dev/stdout") == (0, made, ""))
-        owners(pathlib.Path(folder), text, made)
 
 
-def owners(folder, text, made):
-    """Where modes count, as for everybody but root: a file that may not be written stays, one in a closed folder is written."""
-    fast, shut = folder / "fast", folder / "shut"
-    fast.write_bytes(b"kept")
-    shut.mkdir()
-    (shut / "open").write_bytes(b"old")
-    fast.chmod(0o444)
-    (shut / "open").chmod(0o666)
-    shut.chmod(0o555)
-    folder.chmod(0o777)
-    user = {"user": 65534, "group": 65534, "extra_groups": []} if os.getuid() == 0 else {}
-    status, _, told = tool("bundle_from_text", b"", str(text), str(fast), **user)
-    case("a file that may not be written", status == 2 and "Permission denied" in told and fast.read_bytes() == b"kept")
-    case("a file in a closed folder", tool("bundle_from_text", b"", str(text), str(shut / "open"), **user)[0] == 0 and (shut / "open").read_bytes() == made)
-    status, _, told = tool("bundle_from_text", b"", str(text), str(shut / "new"), **user)
-    case("a new file in a closed folder", status == 2 and "Permission denied" in told)
-    shut.chmod(0o755)
+def files_in_the_way():
+    """Modes, which root doesn't feel, and a disk that fills up halfway: told by what the system would answer."""
+    denied = PermissionError(13, "Permission denied")
+    full = OSError(28, "No space left on device")
+    with tempfile.TemporaryDirectory() as folder:
+        old, new = os.path.join(folder, "old"), os.path.join(folder, "new")
+        pathlib.Path(old).write_bytes(b"old and longer")
+        with mock.patch("os.access", return_value=False):
+            case("a file that may not be written", fails(old) == "Permission denied")
+        with mock.patch("tempfile.mkstemp", side_effect=denied):
+            case("a new file in a closed folder", fails(new) == "Permission denied" and not os.path.exists(new))
+            case("an old file in a closed folder", fails(old) is None and pathlib.Path(old).read_bytes() == b"data")
+            pathlib.Path(old).write_bytes(b"kept")
+            with mock.patch("command.put_bytes", side_effect=[full, None]) as put:
+                case("a full disk in a closed folder", fails(old) == full.strerror and put.call_args.args[1] == b"kept")
+        with mock.patch("os.replace", side_effect=full):
+            case("a full disk", fails(old) == full.strerror and pathlib.Path(old).read_bytes() == b"kept")
+        case("nothing is left over either", os.listdir(folder) == ["old"])
+
+
+def fails(path):
+    """What writing over a path fails by, if it does."""
+    try:
+        command.replace(path, b"data")
+    except OSError as error:
+        return error.strerror
+    return None
 
 
 def outputs_that_fail():
     for name, data in (("bundle_from_text", TEXT.encode()), ("bundle_to_text", example())):
-        command = [str(ROOT / "tools" / name), "-"]
+        words_of = [str(ROOT / "tools" / name), "-"]
         with open("/dev/full", "wb") as full:
-            done = subprocess.run(command, input=data, stdout=full, stderr=subprocess.PIPE)
+            done = subprocess.run(words_of, input=data, stdout=full, stderr=subprocess.PIPE)
         case(f"{name}: a full disk", done.returncode == 2 and sentence(name, done.stderr.decode()) and b"No space left" in done.stderr)
         status, _, told = tool(name, data, "-", "/dev/full")
         case(f"{name}: a full disk by name", status == 2 and "/dev/full can't be written: No space left" in told)
         out, into = os.pipe()
         os.close(out)
-        done = subprocess.run(command, input=data, stdout=into, stderr=subprocess.PIPE)
+        done = subprocess.run(words_of, input=data, stdout=into, stderr=subprocess.PIPE)
         os.close(into)
         case(f"{name}: a closed pipe", (done.returncode, done.stderr) == (-signal.SIGPIPE, b""))
-        done = subprocess.run(["sh", "-c", f"exec {command[0]} - >&-"], input=data, capture_output=True)
+        done = subprocess.run(["sh", "-c", 'exec "$0" - >&-', words_of[0]], input=data, capture_output=True)
         case(f"{name}: no output at all", done.returncode == 2 and b"can't be written" in done.stderr)
-        done = subprocess.run(["sh", "-c", f"exec {command[0]} no-such-file 2>&-"], input=data, capture_output=True)
+        done = subprocess.run(["sh", "-c", 'exec "$0" no-such-file 2>&-', words_of[0]], input=data, capture_output=True)
         case(f"{name}: nowhere to tell", (done.returncode, done.stdout) == (2, b""))
 
 
 if __name__ == "__main__":
-    sys.exit(run(the_example, round_trips, texts_taken, texts_refused, messages_are_short, bundles_refused, wrong_files, files_written, outputs_that_fail))
+    sys.exit(
+        run(
+            the_example,
+            round_trips,
+            texts_taken,
+            texts_refused,
+            messages_are_short,
+            bundles_refused,
+            wrong_files,
+            files_written,
+            files_in_the_way,
+            outputs_that_fail,
+        )
+    )

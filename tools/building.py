@@ -16,7 +16,7 @@ import shutil
 import signal
 import subprocess
 
-from command import Trouble, reason, say
+from command import Trouble, reason, say, unstopped
 
 ROOT = pathlib.Path(__file__).resolve().parent.parent
 BUILT = ROOT / "target" / "built"
@@ -135,7 +135,30 @@ class Build:
     def rt(self, *words):
         """Runs `rt`. It keeps the lock, also where this command is killed; where it is stopped otherwise, `rt` is too."""
         said = []
-        process = subprocess.Popen(
+        process = None
+        try:
+            with unstopped():
+                process = self.started(words)
+            for line in process.stdout:
+                self.log.write(line)
+                self.log.flush()
+                said.append(line)
+                found = re.match(r"rt: (\w+) proved", line)
+                if found:
+                    self.proved(found[1])
+            status = process.wait()
+        except BaseException:
+            if process:
+                with contextlib.suppress(ProcessLookupError):
+                    os.killpg(process.pid, signal.SIGTERM)
+                process.wait()
+            raise
+        if status != 0:
+            told = next((line for line in said if "NOT PROVED" in line or "FAILED" in line), "".join(said[-1:])).strip()
+            raise Trouble(f"the {self.name} isn't built: {told or 'rt failed'}; all that was said is in {self.log.name}")
+
+    def started(self, words):
+        return subprocess.Popen(
             [self.rt_path, *words],
             cwd=ROOT,
             stdin=subprocess.DEVNULL,
@@ -146,23 +169,6 @@ class Build:
             pass_fds=[self.lock],
             start_new_session=True,
         )
-        try:
-            for line in process.stdout:
-                self.log.write(line)
-                self.log.flush()
-                said.append(line)
-                found = re.match(r"rt: (\w+) proved", line)
-                if found:
-                    self.proved(found[1])
-            status = process.wait()
-        except BaseException:
-            with contextlib.suppress(ProcessLookupError):
-                os.killpg(process.pid, signal.SIGTERM)
-            process.wait()
-            raise
-        if status != 0:
-            told = next((line for line in said if "NOT PROVED" in line or "FAILED" in line), "".join(said[-1:])).strip()
-            raise Trouble(f"the {self.name} isn't built: {told or 'rt failed'}; all that was said is in {self.log.name}")
 
     def run(self, words, said=None):
         """Runs another program that the build needs."""

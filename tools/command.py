@@ -17,6 +17,7 @@ REFUSED = 1
 TROUBLE = 2
 BUNDLE_READ = 65536  # bytes; the report program reads no more, and no bundle is longer
 closed = set()  # the standard streams that were closed when the command began
+waiting = None  # signals that wait, while something is done that must not be cut short
 
 
 class Refused(Exception):
@@ -87,7 +88,22 @@ def source_of(names):
 
 
 def stop(number, _):
-    raise Stopped(number)
+    if waiting is None:
+        raise Stopped(number)
+    waiting.append(number)
+
+
+@contextlib.contextmanager
+def unstopped():
+    """Lets a signal that would stop the command wait until this is done."""
+    global waiting
+    waiting = []
+    try:
+        yield
+    finally:
+        came, waiting = waiting, None
+        if came:
+            raise Stopped(came[0])
 
 
 def end_by(number):
@@ -179,34 +195,28 @@ def read_bundle_file(name):
     return data
 
 
-PRINTABLE = frozenset([*range(32, 127), *b"\t\n\f\r\x1a"])
+PRINTABLE = frozenset(map(chr, [*range(32, 127), *b"\t\n\f\r\x1a"]))
 
 
 def text_coding(data):
     """How bytes are written that are a text by their front, or None. No bundle is one: it begins with a control character."""
     front = data[:256]
-    if front[:2] in (b"\xff\xfe", b"\xfe\xff"):
-        front = front[2:]
-    even, odd = front[0::2], front[1::2]
-    if len(front) > 1 and (plain(even, 1) and not any(odd) or plain(odd, 1) and not any(even)):
+    if front[:2] in (codecs.BOM_UTF16_LE, codecs.BOM_UTF16_BE):
+        return "UTF-16" if readable(front, "utf-16", 0) else None
+    if readable(front, "utf-16-le", 1) or readable(front, "utf-16-be", 1):
         return "UTF-16"
     # In another coding than UTF-8 most of a text is plain all the same.
-    return "UTF-8" if front and plain(front, 0 if is_utf8(front) else 0.75) else None
+    return "UTF-8" if readable(front, "utf-8-sig", 0) or readable(front, "latin-1", 0.75) else None
 
 
-def plain(front, share):
-    """Whether so much of it is printable ASCII, and nothing of it a control character."""
-    count = sum(byte in PRINTABLE for byte in front)
-    return count >= share * len(front) and all(byte in PRINTABLE or byte >= 128 for byte in front)
-
-
-def is_utf8(front):
-    """Whether bytes that may be cut in a character are UTF-8."""
+def readable(front, coding, share):
+    """Whether bytes that may be cut in a character have no control character in this coding, and so much ASCII."""
     try:
-        codecs.getincrementaldecoder("utf-8")().decode(front)
-    except UnicodeDecodeError:
+        text = codecs.getincrementaldecoder(coding)().decode(front)
+    except UnicodeError:
         return False
-    return True
+    plain = sum(c in PRINTABLE for c in text)
+    return text != "" and plain >= share * len(text) and all(c in PRINTABLE or c >= "\xa0" for c in text)
 
 
 # ---- Writing ----
@@ -255,24 +265,42 @@ def replace(path, data):
     old = os.stat(path) if os.path.exists(path) else None
     if old and not os.access(path, os.W_OK):
         raise PermissionError(None, "Permission denied")
-    try:
-        number, new = tempfile.mkstemp(prefix=".new-", dir=os.path.dirname(path))
-    except PermissionError:
-        if not old:
+    with unstopped():
+        try:
+            number, new = tempfile.mkstemp(prefix=".new-", dir=os.path.dirname(path))
+        except PermissionError:
+            if not old:
+                raise
+            return write_over(path, data)
+        try:
+            with open(number, "wb") as file:
+                file.write(data)
+            if old:
+                with contextlib.suppress(PermissionError):
+                    os.chown(new, old.st_uid, old.st_gid)
+            os.chmod(new, stat.S_IMODE(old.st_mode) if old else 0o666 & ~umask())
+            os.replace(new, path)
+        except BaseException:
+            os.unlink(new)
             raise
-        # A folder that takes no new file leaves only the old one's own room.
-        return write_through(path, data)
-    try:
-        with open(number, "wb") as file:
-            file.write(data)
-        if old:
-            with contextlib.suppress(PermissionError):
-                os.chown(new, old.st_uid, old.st_gid)
-        os.chmod(new, stat.S_IMODE(old.st_mode) if old else 0o666 & ~umask())
-        os.replace(new, path)
-    except BaseException:
-        os.unlink(new)
-        raise
+
+
+def write_over(path, data):
+    """Where a folder takes no new file: into the old one, which gets its bytes back where that fails."""
+    with open(path, "r+b") as file:
+        old = file.read()
+        try:
+            put_bytes(file, data)
+        except OSError:
+            put_bytes(file, old)
+            raise
+
+
+def put_bytes(file, data):
+    file.seek(0)
+    file.write(data)
+    file.truncate()
+    file.flush()
 
 
 def umask():

@@ -66,7 +66,7 @@ int main(void) {
     }
     sigaction(SIGALRM, &action, NULL);
     setitimer(ITIMER_REAL, &often, NULL);
-    hold("signals", right(500));
+    for (int i = 0; i < 1000000 && ticks < 9; i++) hold("signals", right(1));
     setitimer(ITIMER_REAL, &never, NULL);
     hold("signals came", ticks > 0);
     hold("no child is left to wait for", wait(NULL) < 0);

@@ -59,7 +59,8 @@ static void serve(int socket) {
     if (setsid() < 0 || fork() != 0) _exit(0);
     dup2(end, 0);
     dup2(end, 1);
-    close(end);
+    // What the program has open is not for the server to keep.
+    for (int other = 3; other < 65536; other++) close(other);
     execl(TOOLS "/bin/qemu-x86_64", "qemu-x86_64", "-cpu", "qemu64", TOOLS "/lib/ld-linux-x86-64.so.2", "--library-path",
           TOOLS "/lib", SERVER, (char *)NULL);
     _exit(127);

@@ -1,6 +1,7 @@
 // How an answer leaves the project: its numbers over the front of lent words, one after the other; where the words end, the rest is left out.
 // The crates whose names begin with `exports_` offer the services so, over numbers, and lists as a pointer and a length.
-// Of a caller is asked only what makes a slice: so many words or bytes behind each pointer, and no list that is written overlapping another.
+// Of a caller is asked only what makes a slice: so many words or bytes behind each pointer, words at multiples of 4; no list that is written overlapping another;
+// and nobody else writing to a list, or reading one that is written, before the call returns.
 ghost use mathlib.Core.Path.{_≡_};
 ghost use Rattle.paging.specs.Services.{laid};
 
