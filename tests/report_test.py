@@ -217,8 +217,6 @@ class MadeUp:
         self.bare = self.script("bare/python3", f'#!/bin/sh\nexec {shlex.quote(sys.executable)} "$@"\n').parent
         (self.bare / "cat").symlink_to(shutil.which("cat"))
         self.tell("prints", "echo printed")
-        # A file's time and a build's are told apart once the clock has moved.
-        time.sleep(0.05)
 
     def script(self, name, text):
         path = self.root.parent / name
