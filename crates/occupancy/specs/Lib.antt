@@ -1,0 +1,2 @@
+-- What the contracts of the map of occupied frames cite.
+pub mod Map
