@@ -1,4 +1,4 @@
-// One request over a record's parts: rule, frames, how many entries are in use, and the 256 entries.
+// One request over a record's parts: rule, frames, the map of occupied frames, and the 256 entries.
 // It asks nothing of them; that it is document 01's step wherever they are sound is proved in crate `cache` (`served-steps`).
 ghost use mathlib.Core.Path.{_≡_};
 ghost use Prim.Native.Nat.{_<_};
@@ -12,10 +12,10 @@ use paging::Moment;
 use paging::Outcome;
 use paging::Page;
 
-// What a request came to, and the entries after it.
+// What a request came to, and the map and the entries after it.
 pub struct After {
     pub outcome: Outcome,
-    pub held: u32,
+    pub map: [u64; occupancy::WORDS],
     pub entries: [Entry; calls::FRAMES as usize],
 }
 
@@ -36,23 +36,34 @@ fn put(
 }
 
 // The page is held in a frame: its entry is renewed.
-fn hit(held: u32, entries: [Entry; calls::FRAMES as usize], frame: Frame, now: Moment) -> After
+fn hit(
+    map: [u64; occupancy::WORDS],
+    entries: [Entry; calls::FRAMES as usize],
+    frame: Frame,
+    now: Moment,
+) -> After
     requires { ⌜ frame .0 < frameLimit ⌝ }
-    ensures { λ r. ⌜ r ≡ hitStep held entries (frame .0) (now .0) ⌝ }
+    ensures { λ r. ⌜ r ≡ hitStep map entries (frame .0) (now .0) ⌝ }
 {
     let at = frame.0 as usize;
     let old = entries[at];
     let entry = entries::renewed(old, now);
     After {
         outcome: Outcome::Hit,
-        held: held,
+        map: map,
         entries: put(entries, frame, entry),
     }
 }
 
 // All frames are in use: the entry comes in place of the one with the least key.
-fn replace(rule: u32, held: u32, entries: [Entry; calls::FRAMES as usize], entry: Entry) -> After
-    ensures { λ r. ⌜ r ≡ fullStep rule held entries entry ⌝ }
+fn replace(
+    rule: u32,
+    held: u32,
+    map: [u64; occupancy::WORDS],
+    entries: [Entry; calls::FRAMES as usize],
+    entry: Entry,
+) -> After
+    ensures { λ r. ⌜ r ≡ fullStep rule held map entries entry ⌝ }
 {
     let frame = entries::least(entries, held, rule);
     let at = frame.0 as usize;
@@ -60,29 +71,31 @@ fn replace(rule: u32, held: u32, entries: [Entry; calls::FRAMES as usize], entry
     let dropped = old.page;
     After {
         outcome: Outcome::Dropped(dropped),
-        held: held,
+        map: map,
         entries: put(entries, frame, entry),
     }
 }
 
-// An entry comes in: into the lowest free frame, or in place of another.
+// An entry comes in: into the next free frame, or in place of another.
 fn load(
     rule: u32,
     frames: u32,
     held: u32,
+    map: [u64; occupancy::WORDS],
     entries: [Entry; calls::FRAMES as usize],
     entry: Entry,
 ) -> After
-    ensures { λ r. ⌜ r ≡ loadStep rule frames held entries entry ⌝ }
+    ensures { λ r. ⌜ r ≡ loadStep rule frames held map entries entry ⌝ }
 {
     if held < frames {
+        let free = occupancy::next_free(map);
         return After {
             outcome: Outcome::Loaded,
-            held: held + 1,
-            entries: put(entries, Frame(held), entry),
+            map: occupancy::with_frame(map, free),
+            entries: put(entries, free, entry),
         };
     }
-    replace(rule, held, entries, entry)
+    replace(rule, held, map, entries, entry)
 }
 
 // The request of a page at this moment.
@@ -90,14 +103,22 @@ pub fn step(
     rule: u32,
     frames: u32,
     now: Moment,
-    held: u32,
+    map: [u64; occupancy::WORDS],
     entries: [Entry; calls::FRAMES as usize],
     page: Page,
 ) -> After
-    ensures { λ r. ⌜ r ≡ stepped rule frames (now .0) (page .0) held entries ⌝ }
+    ensures { λ r. ⌜ r ≡ stepped rule frames (now .0) (page .0) map entries ⌝ }
 {
+    let held = occupancy::held(map);
     match entries::find(entries, held, page) {
-        Found::At(frame) => hit(held, entries, frame, now),
-        Found::Nothing => load(rule, frames, held, entries, entries::loaded_at(now, page)),
+        Found::At(frame) => hit(map, entries, frame, now),
+        Found::Nothing => load(
+            rule,
+            frames,
+            held,
+            map,
+            entries,
+            entries::loaded_at(now, page),
+        ),
     }
 }

@@ -19,7 +19,7 @@ mul-old c = search needs
 array-copy-out-old : tie.Need-array-copy-out-old
 array-copy-out-old c =
     let s = c .before .before in
-    omega (arith, least-frame-inside (s .args .held) (s .args .t3) (long (s .args .t3) _ (s .good .1 .1 .0)) (s .args .rule), c .before .least .ensures)
+    omega (arith, least-frame-inside (s .args .held) (s .args .t4) (long (s .args .t4) _ (s .good .1 .1 .1 .0)) (s .args .rule), c .before .least .ensures)
 
 put-requires : tie.Need-put-requires
 put-requires c κs = search needs

@@ -1,11 +1,14 @@
 -- `steps::step` meets its contract: the page is found in a frame, or it isn't.
 -- Assumes nothing.
-use mathlib.Core.Path.{_≡_, sym, _∙_}
+use mathlib.Core.Path.{_≡_, sym, ap, _∙_}
+use Prim.Native.Nat.{ℕ}
 use mathlib.Core.Bool.{true}
 use native.Mathlib.Omega.{arith}
 use lib.ListN.{take}
 use borrow.Author.Needs.{needs}
 use Rattle.paging.specs.Walk.{holds, frameOf}
+use Rattle.occupancy.specs.Map.{onesOf}
+use Rattle.entries.specs.Devices.Search.{foundIn}
 use Rattle.entries.proofs.Long.{long}
 use Rattle.entries.proofs.Search.{found-frame, found-nothing}
 use Rattle.steps.specs.Devices.Step.{stepped}
@@ -15,9 +18,16 @@ use Rattle.steps.proofs.step.Tie as tie
 
 -- where the page is found: it is held, and in which frame
 told : (c : tie.After-frame)
-    → (holds (c .before .before .before .args .page .0) (take (c .before .before .before .args .held) (c .before .before .before .args .entries)) ≡ true)
-    × (frameOf (c .before .before .before .args .page .0) (take (c .before .before .before .args .held) (c .before .before .before .args .entries)) ≡ c .frame .given .0 .0 .0)
-told c = found-frame _ _ _ (sym (c .before .before .find .ensures) ∙ c .frame .given .1)
+    → (holds (c .before .before .before .before .args .page .0) (take (onesOf (c .before .before .before .before .args .map)) (c .before .before .before .before .args .entries)) ≡ true)
+    × (frameOf (c .before .before .before .before .args .page .0) (take (onesOf (c .before .before .before .before .args .map)) (c .before .before .before .before .args .entries)) ≡ c .frame .given .0 .0 .0)
+told c =
+    let s = c .before .before .before .before in
+    let f = c .before .before in
+    found-frame _ _ _
+    (ap (λ (held : ℕ). foundIn (s .args .page .0) (take held (s .args .entries))) (sym (f .before .held .ensures)) ∙ sym (f .find .ensures) ∙ c .frame .given .1)
+
+held-requires : tie.Need-held-requires
+held-requires c κs = search needs
 
 find-requires : tie.Need-find-requires
 find-requires c κs = search needs
@@ -28,11 +38,11 @@ enum-known-frame c = search needs
 hit-requires : tie.Need-hit-requires
 hit-requires c κs =
     let f = c .before in
-    let s = f .before .before .before in
+    let s = f .before .before .before .before in
     let a = s .args in
     omega (
       arith,
-      frame-inside (a .held) (a .entries) (long (a .entries) _ (s .good .1 .1 .1 .1 .0)) (a .page .0) (told f .0),
+      frame-inside (onesOf (a .map)) (a .entries) (long (a .entries) _ (s .good .1 .1 .1 .1 .0)) (a .page .0) (told f .0),
       told f .1,
     )
 
@@ -52,13 +62,17 @@ returns c = let f = c .before .before in rw (c .hit .ensures, ← told f .1, tol
 returns-2 : tie.Need-returns-2
 unfolding stepped
 returns-2 c =
-    let none = found-nothing _ _ (sym (c .before .before .before .before .find .ensures) ∙ c .before .before .enum-told .given .1) in
-    rw (c .load .ensures, c .before .loaded-at .ensures, none)
+    let f = c .before .before .before .before in
+    let s = f .before .before in
+    let none = found-nothing (s .args .page .0) (take (onesOf (s .args .map)) (s .args .entries))
+    (ap (λ (held : ℕ). foundIn (s .args .page .0) (take held (s .args .entries))) (sym (f .before .held .ensures)) ∙ sym (f .find .ensures) ∙ c .before .before .enum-told .given .1) in
+    rw (c .load .ensures, c .before .loaded-at .ensures, f .before .held .ensures, none)
 
 pub step-spec : {M : Type 1} → statement M
 step-spec =
     tie.close
     (tie.spec
+    held-requires
     find-requires
     enum-known-frame
     hit-requires

@@ -1,40 +1,43 @@
 -- Devices of one request over a record's parts: the three ways as the code writes them, for any parts.
 -- Assumes nothing.
 use mathlib.Core.List.{List}
-use Prim.Native.Nat.{ℕ, _+_}
+use Prim.Native.Nat.{ℕ}
 use lib.Dec.{ltb}
 use lib.ListN.{take, set}
 use Rattle.paging.specs.Lists.{pick}
 use Rattle.paging.specs.Walk.{holds, frameOf, entryAt, loadedAt, renewed}
 use Rattle.paging.specs.declared.Entry.{Entry}
 use Rattle.paging.specs.declared.Outcome.the-variants.{Hit, Loaded, Dropped}
+use Rattle.occupancy.specs.Map.{onesOf, lowestZero, withFrame}
 use Rattle.entries.specs.Devices.Search.{leastFrame}
 use Rattle.steps.specs.declared.After.{After}
 
 -- the page is held in a frame
-abbrev pub hitStep : ℕ → List Entry → ℕ → ℕ → After
-hitStep held entries frame t =
-    record { outcome = Hit; held = held; entries = set entries frame (renewed t (entryAt entries frame)) }
+abbrev pub hitStep : List ℕ → List Entry → ℕ → ℕ → After
+hitStep map entries frame t =
+    record { outcome = Hit; map = map; entries = set entries frame (renewed t (entryAt entries frame)) }
 
--- a frame is free
-abbrev pub roomStep : ℕ → List Entry → Entry → After
-roomStep held entries e = record { outcome = Loaded; held = held + 1; entries = set entries held e }
+-- a frame is free: the lowest zero bit is the next
+abbrev pub roomStep : List ℕ → List Entry → Entry → After
+roomStep map entries e =
+    record { outcome = Loaded; map = withFrame map (lowestZero map); entries = set entries (lowestZero map) e }
 
 -- none is: the entry with the least key goes
-abbrev pub fullStep : ℕ → ℕ → List Entry → Entry → After
-fullStep rule held entries e =
+abbrev pub fullStep : ℕ → ℕ → List ℕ → List Entry → Entry → After
+fullStep rule held map entries e =
     record {
       outcome = Dropped (entryAt entries (leastFrame rule (take held entries)) .page);
-      held = held;
+      map = map;
       entries = set entries (leastFrame rule (take held entries)) e;
     }
 
-abbrev pub loadStep : ℕ → ℕ → ℕ → List Entry → Entry → After
-loadStep rule frames held entries e = pick (ltb held frames) (roomStep held entries e) (fullStep rule held entries e)
+abbrev pub loadStep : ℕ → ℕ → ℕ → List ℕ → List Entry → Entry → After
+loadStep rule frames held map entries e =
+    pick (ltb held frames) (roomStep map entries e) (fullStep rule held map entries e)
 
 -- the request of page p at moment t
-unfoldable pub stepped : ℕ → ℕ → ℕ → ℕ → ℕ → List Entry → After
-unfolding holds frameOf
-stepped rule frames t p held entries =
-    pick (holds p (take held entries)) (hitStep held entries (frameOf p (take held entries)) t)
-    (loadStep rule frames held entries (loadedAt t p))
+unfoldable pub stepped : ℕ → ℕ → ℕ → ℕ → List ℕ → List Entry → After
+unfolding holds frameOf onesOf
+stepped rule frames t p map entries =
+    pick (holds p (take (onesOf map) entries)) (hitStep map entries (frameOf p (take (onesOf map) entries)) t)
+    (loadStep rule frames (onesOf map) map entries (loadedAt t p))
