@@ -14,9 +14,10 @@ use Rattle.paging.specs.Calls.{frameLimit, requestLimit}
 use Rattle.paging.specs.declared.Entry.{Entry}
 use Rattle.paging.proofs.Choice.{chosen-below}
 use Rattle.paging.proofs.Frames.{Ways, ways, held-frame}
+use Rattle.occupancy.proofs.Lowest.{map-ones}
 use Rattle.cache.specs.declared.Cache.{Cache}
 use Rattle.cache.specs.declared.Served.{Served}
-use Rattle.cache.specs.Record.{heldOf, heldEntries, ruleOf}
+use Rattle.cache.specs.Record.{heldOf, heldEntries, ruleOf, Formed}
 use Rattle.cache.specs.Sound.{sound, Sound}
 use Rattle.cache.specs.Feed.{served, fed, changedFrame, changedEntry, changedHeld, Applied}
 use Rattle.cache.proofs.Soundness.{sound-is, held-length}
@@ -29,50 +30,53 @@ Places c p =
     (changedFrame c p < c .frames)
     × (changedEntry c p .page .0 ≡ p)
     × (changedEntry c p .last .0 ≡ c .clock)
+    × (changedHeld c p ≤ frameLimit)
     × (served c p .next ≡ placed c (changedFrame c p) (changedEntry c p) (changedHeld c p))
 
-served-places : (c : Cache) (p : ℕ) → length (c .entries) ≡ frameLimit → Sound c → Places c p
+served-places : (c : Cache) (p : ℕ) → Formed c → Sound c → Places c p
 unfolding changedFrame changedEntry changedHeld
-served-places c p size s = go (ways (c .frames) p (heldEntries c))
+served-places c p formed s = go (ways (c .frames) p (heldEntries c))
   where
     l : length (heldEntries c) ≡ heldOf c
-    l = held-length c size s
+    l = held-length c formed s
 
     go : Ways (c .frames) p (heldEntries c) → Places c p
     go (inl q) =
         let (h, e) = held-frame p (heldEntries c) q in
         let k : frameOf p (heldEntries c) < heldOf c = omega (arith, l) in
-        let m : frameOf p (heldEntries c) < c .frames = omega (arith, s .held-frames) in
+        let m : frameOf p (heldEntries c) < c .frames = omega (arith, s .parts .held-frames) in
         rw q (
           m,
           ap (λ (x : Entry). x .page .0) (sym (entry-held c (frameOf p (heldEntries c)) k)) ∙ e,
           refl,
-          sym (ap (λ (a : Served). a .next) (served-hit c size s p q .1)),
+          omega (arith, s .parts .held-frames, s .parts .frames-most),
+          sym (ap (λ (a : Served). a .next) (served-hit c formed s p q .1)),
         )
     go (inr (inl (q, h))) =
         let k : heldOf c < c .frames = omega (arith, l) in
-        rw (q, lt-ltb (heldOf c) (c .frames) k) (k, refl, refl, sym (ap (λ (a : Served). a .next) (served-room c size s p q k)))
+        rw (q, lt-ltb (heldOf c) (c .frames) k) (k, refl, refl, omega (arith, s .parts .frames-most), sym (ap (λ (a : Served). a .next) (served-room c formed s p q k)))
     go (inr (inr (q, h))) =
         let k : c .frames ≤ heldOf c = omega (arith, l) in
         let m : chosen (ruleOf c) noRequests (heldEntries c) < c .frames =
-        omega (arith, l, chosen-below (ruleOf c) noRequests (heldEntries c) (omega (arith, s .frames-some)), s .held-frames) in
-        rw (q, le-ltb (heldOf c) (c .frames) k) (m, refl, refl, sym (ap (λ (a : Served). a .next) (served-full c size s p q k .1)))
+        omega (arith, l, chosen-below (ruleOf c) noRequests (heldEntries c) (omega (arith, s .parts .frames-some)), s .parts .held-frames) in
+        rw (q, le-ltb (heldOf c) (c .frames) k) (m, refl, refl, omega (arith, s .parts .held-frames, s .parts .frames-most), sym (ap (λ (a : Served). a .next) (served-full c formed s p q k .1)))
 
 -- FEED APPLIES THE RULE TO THE ENTRIES AS THEY STAND: on any sound record, wherever the request is taken
-pub fed-applies : (c : Cache) (p : ℕ) → length (c .entries) ≡ frameLimit → sound c ≡ true → (p ≡ mark → ⊥) → (c .clock ≡ requestLimit → ⊥)
+pub fed-applies : (c : Cache) (p : ℕ) → Formed c → sound c ≡ true → (p ≡ mark → ⊥) → (c .clock ≡ requestLimit → ⊥)
     → Applied c p (fed c p .next)
-fed-applies c p size s page clock =
+fed-applies c p formed s page clock =
     let k : Sound c = sound-is c s in
-    let (inside, own, last, e) = served-places c p size k in
+    let (inside, own, last, few, e) = served-places c p formed k in
     let f : ℕ = changedFrame c p in
     let x : Entry = changedEntry c p in
     rw (fed-open c p s page clock, e) (record {
       rule-stays = refl;
       frames-stay = refl;
       clock-on = refl;
-      held-now = refl;
+      map-now = refl;
+      held-now = map-ones (changedHeld c p) few;
       frame-inside = inside;
-      entry-now = getD-set-same (c .entries) f x zeroEntry (omega (arith, k .frames-most));
+      entry-now = getD-set-same (c .entries) f x zeroEntry (omega (arith, k .parts .frames-most));
       page-now = own;
       last-now = last;
       others-stay = λ i h d. getD-set-other (c .entries) f i x zeroEntry d;

@@ -9,7 +9,7 @@ use Prim.Native.Nat.{ℕ, suc, _+_, _-_, _≤_, _<_}
 use native.Mathlib.Numerals.{add-one}
 use native.Mathlib.Omega.{arith}
 use lib.Dec.{eqb}
-use lib.ListN.{length, replicate, length-append, length-replicate}
+use lib.ListN.{length, take, replicate, length-append, length-replicate}
 use lib.Seq.{take-append-seam}
 use borrow.Author.Tests.{ne-eqb, eqb-false}
 use Rattle.paging.specs.Lists.{pick, any}
@@ -25,17 +25,18 @@ use Rattle.paging.proofs.Lists.{false≢true}
 use Rattle.paging.proofs.Frames.{next-size}
 use Rattle.paging.proofs.Sight.{outcomes-past, outcome-blind, next-blind}
 use Rattle.entries.specs.Blank.{blankEntry}
+use Rattle.occupancy.proofs.Lowest.{map-ones, map-words}
 use Rattle.soundness.specs.Sound.{feedable}
 use Rattle.soundness.proofs.Orderly.{drops-one}
 use Rattle.cache.specs.declared.Cache.{Cache}
 use Rattle.cache.specs.declared.Served.{Served}
 use Rattle.cache.specs.declared.Reply.{Reply}
 use Rattle.cache.specs.declared.Fed.{Fed}
-use Rattle.cache.specs.Record.{emptyCache, heldOf, heldEntries, ruleOf, freshOf}
+use Rattle.cache.specs.Record.{emptyCache, heldOf, heldEntries, padded, ruleOf, Formed, freshOf}
 use Rattle.cache.specs.Sound.{sound, Sound}
 use Rattle.cache.specs.Feed.{served, replyOf, fed, feeding, fedPlan, fedFaults}
 use Rattle.cache.specs.Devices.Step.{stepOn, onward, outcomesFrom}
-use Rattle.cache.proofs.Soundness.{sound-is, is-sound, held-length, empty-sound, fresh-in-order, fresh-empty}
+use Rattle.cache.proofs.Soundness.{sound-is, is-sound, held-length, empty-formed, empty-held, empty-sound, fresh-in-order, fresh-empty}
 use Rattle.cache.proofs.Least.{not-min}
 use Rattle.cache.proofs.Step.{served-steps, served-sound}
 
@@ -46,43 +47,56 @@ pub fed-open : (c : Cache) (p : ℕ) → sound c ≡ true → (p ≡ mark → �
 unfolding fed
 fed-open c p s page clock = rw (s, ne-eqb p mark page, ne-eqb (c .clock) requestLimit clock)
 
--- the entries in use after a request are those of the walk
-served-held : (c : Cache) (p : ℕ) → heldEntries (served c p .next) ≡ next (ruleOf c) (c .frames) (c .clock) p noRequests (heldEntries c)
-unfolding served
-served-held c p = take-append-seam (next (ruleOf c) (c .frames) (c .clock) p noRequests (heldEntries c)) _
+-- the entries in use after a request are those of the walk, and the record has its form
+module _ (c : Cache) (p : ℕ) (formed : Formed c) (s : Sound c) where
+  abbrev after : List Entry
+  after = next (ruleOf c) (c .frames) (c .clock) p noRequests (heldEntries c)
 
-served-size : (c : Cache) (p : ℕ) → length (c .entries) ≡ frameLimit → Sound c → length (served c p .next .entries) ≡ frameLimit
-unfolding served
-served-size c p size s =
-    let es : List Entry = next (ruleOf c) (c .frames) (c .clock) p noRequests (heldEntries c) in
-    let l : length es ≤ c .frames = next-size (ruleOf c) (c .frames) (c .clock) p noRequests (heldEntries c) (omega (arith, held-length c size s, s .held-frames)) in
-    omega (arith, length-append es (replicate (frameLimit - length es) blankEntry), length-replicate (frameLimit - length es) blankEntry, s .frames-most)
+  after-few : length after ≤ frameLimit
+  after-few =
+      omega (
+        arith,
+        next-size (ruleOf c) (c .frames) (c .clock) p noRequests (heldEntries c) (omega (arith, held-length c formed s, s .parts .held-frames)),
+        s .parts .frames-most,
+      )
+
+  served-held : heldEntries (served c p .next) ≡ after
+  unfolding served
+  served-held = ap (λ (k : ℕ). take k (padded after)) (map-ones (length after) after-few) ∙ take-append-seam after _
+
+  pub served-formed : Formed (served c p .next)
+  unfolding served
+  served-formed =
+      record {
+        all-entries = omega (arith, length-append after (replicate (frameLimit - length after) blankEntry), length-replicate (frameLimit - length after) blankEntry, after-few);
+        map-words = map-words (length after);
+      }
 
 -- ---- FEED KEEPS A RECORD SOUND
 
-pub fed-sound : (c : Cache) (p : ℕ) → length (c .entries) ≡ frameLimit → sound c ≡ true → sound (fed c p .next) ≡ true
+pub fed-sound : (c : Cache) (p : ℕ) → Formed c → sound c ≡ true → sound (fed c p .next) ≡ true
 unfolding fed
-fed-sound c p size s = go (eqb p mark) (eqb (c .clock) requestLimit) refl refl
+fed-sound c p formed s = go (eqb p mark) (eqb (c .clock) requestLimit) refl refl
   where
     go : (a b : Bool) → eqb p mark ≡ a → eqb (c .clock) requestLimit ≡ b → sound (fed c p .next) ≡ true
     go true b q r = rw (s, q) s
     go false true q r = rw (s, q, r) s
     go false false q r =
         let k : Sound c = sound-is c s in
-        rw (s, q, r) (is-sound _ (served-sound c p size k (below (c .clock) (k .clock-most) (eqb-false _ _ r)) (eqb-false _ _ q)))
+        rw (s, q, r) (is-sound _ (served-sound c p formed k (below (c .clock) (k .parts .clock-most) (eqb-false _ _ r)) (eqb-false _ _ q)))
       where
         below : (t : ℕ) → t ≤ requestLimit → (t ≡ requestLimit → ⊥) → t < requestLimit
         below t h e = omega arith
 
 -- ---- THE PAGE DROPPED IS UNIQUE, on a sound record: only one entry fits the rule's description
 
-pub dropped-one : (c : Cache) → length (c .entries) ≡ frameLimit → sound c ≡ true → (i j : ℕ) → i < heldOf c → j < heldOf c
+pub dropped-one : (c : Cache) → Formed c → sound c ≡ true → (i j : ℕ) → i < heldOf c → j < heldOf c
     → drops (ruleOf c) noRequests (heldEntries c) (entryAt (heldEntries c) i) ≡ true
     → drops (ruleOf c) noRequests (heldEntries c) (entryAt (heldEntries c) j) ≡ true → i ≡ j
-dropped-one c size s i j h k =
+dropped-one c formed s i j h k =
     let w : Sound c = sound-is c s in
-    drops-one (c .clock) (heldEntries c) (w .orderly) (ruleOf c) noRequests (not-min (c .rule) (w .feeds)) i j
-    (omega (arith, held-length c size w)) (omega (arith, held-length c size w))
+    drops-one (c .clock) (heldEntries c) (w .parts .orderly) (ruleOf c) noRequests (not-min (c .rule) (w .parts .feeds)) i j
+    (omega (arith, held-length c formed w)) (omega (arith, held-length c formed w))
 
 -- ---- FEEDING A TRACE
 
@@ -95,32 +109,33 @@ unmarked-cons p ps = go (eqb p mark) refl
     go false q m = (eqb-false _ _ q, m)
 
 -- one request, then the rest
-outcomes-step : (c : Cache) (p : ℕ) (ps : List ℕ) → (ruleOf c ≡ Min → ⊥) → outcomesFrom c (p ∷ ps) ≡ served c p .outcome ∷ outcomesFrom (served c p .next) ps
+outcomes-step : (c : Cache) (p : ℕ) (ps : List ℕ) → Formed c → Sound c → outcomesFrom c (p ∷ ps) ≡ served c p .outcome ∷ outcomesFrom (served c p .next) ps
 unfolding served outcomes
-outcomes-step c p ps fed =
+outcomes-step c p ps formed s =
+    let fed : ruleOf c ≡ Min → ⊥ = not-min (c .rule) (s .parts .feeds) in
     let es : List Entry = heldEntries c in
     ap₂ (λ (o : Outcome) (os : List Outcome). o ∷ os) (outcome-blind (ruleOf c) fed (between [] ps) noRequests es (c .frames) p)
     (outcomes-past (ruleOf c) (c .frames) (suc (c .clock)) (p ∷ []) [] ps (next (ruleOf c) (c .frames) (c .clock) p (between [] ps) es)
     ∙ ap₂ (λ (t : ℕ) (new : List Entry). outcomes (ruleOf c) (c .frames) t [] ps new) (sym (add-one (c .clock)))
-    (next-blind (ruleOf c) fed (between [] ps) noRequests es (c .frames) (c .clock) p ∙ sym (served-held c p)))
+    (next-blind (ruleOf c) fed (between [] ps) noRequests es (c .frames) (c .clock) p ∙ sym (served-held c p formed s)))
 
 -- a record that can be fed these requests without a refusal
 pub record Fits (c : Cache) (ps : List ℕ) : Type 0 where
   pub sound-now : Sound c
-  pub long-now : length (c .entries) ≡ frameLimit
+  pub formed-now : Formed c
   pub time-left : c .clock + length ps ≤ requestLimit
   pub no-mark : marked ps ≡ false
 
-pub fits-first : (c : Cache) (ps : List ℕ) → length (c .entries) ≡ frameLimit → (sound c ≡ true) → (c .clock + length ps ≤ requestLimit) → (marked ps ≡ false) → Fits c ps
-fits-first c ps l s h m = record { sound-now = sound-is c s; long-now = l; time-left = h; no-mark = m }
+pub fits-first : (c : Cache) (ps : List ℕ) → Formed c → (sound c ≡ true) → (c .clock + length ps ≤ requestLimit) → (marked ps ≡ false) → Fits c ps
+fits-first c ps l s h m = record { sound-now = sound-is c s; formed-now = l; time-left = h; no-mark = m }
 
 fits-next : (c : Cache) (p : ℕ) (ps : List ℕ) → Fits c (p ∷ ps) → (p ≡ mark → ⊥) × Fits (served c p .next) ps
 fits-next c p ps f =
     let (page, rest) = unmarked-cons p ps (f .no-mark) in (
       page,
       record {
-        sound-now = served-sound c p (f .long-now) (f .sound-now) (omega (arith, f .time-left)) page;
-        long-now = served-size c p (f .long-now) (f .sound-now);
+        sound-now = served-sound c p (f .formed-now) (f .sound-now) (omega (arith, f .time-left)) page;
+        formed-now = served-formed c p (f .formed-now) (f .sound-now);
         time-left = later c p ps (f .time-left);
         no-mark = rest;
       },
@@ -133,12 +148,12 @@ fits-next c p ps f =
 module _ (c : Cache) (p : ℕ) (ps : List ℕ) (f : Fits c (p ∷ ps)) where
   pub fits-on : Fits (onward c (stepOn c p)) ps
   fits-on =
-      subst (λ (d : Cache). Fits d ps) (sym (ap (λ (a : Served). a .next) (served-steps c (f .long-now) (f .sound-now) p))) (fits-next c p ps f .1)
+      subst (λ (d : Cache). Fits d ps) (sym (ap (λ (a : Served). a .next) (served-steps c (f .formed-now) (f .sound-now) p))) (fits-next c p ps f .1)
 
   pub outcomes-on : outcomesFrom c (p ∷ ps) ≡ stepOn c p .outcome ∷ outcomesFrom (onward c (stepOn c p)) ps
   outcomes-on =
-      outcomes-step c p ps (not-min (c .rule) (f .sound-now .feeds))
-      ∙ sym (ap (λ (a : Served). a .outcome ∷ outcomesFrom (a .next) ps) (served-steps c (f .long-now) (f .sound-now) p))
+      outcomes-step c p ps (f .formed-now) (f .sound-now)
+      ∙ sym (ap (λ (a : Served). a .outcome ∷ outcomesFrom (a .next) ps) (served-steps c (f .formed-now) (f .sound-now) p))
 
 -- the replies are the outcomes of the walk from its entries
 feeding-walks : (ps : List ℕ) (c : Cache) → Fits c ps → feeding c ps ≡ map replyOf (outcomesFrom c ps)
@@ -148,7 +163,7 @@ feeding-walks (p ∷ ps) c f =
     let (page, g) = fits-next c p ps f in
     let full : c .clock ≡ requestLimit → ⊥ = λ x. omega (arith, f .time-left) in
     rw (fed-open c p (is-sound c (f .sound-now)) page full) (ap (λ (rs : List Reply). replyOf (served c p .outcome) ∷ rs) (feeding-walks ps (served c p .next) g))
-    ∙ ap (map replyOf) (sym (outcomes-step c p ps (not-min (c .rule) (f .sound-now .feeds))))
+    ∙ ap (map replyOf) (sym (outcomes-step c p ps (f .formed-now) (f .sound-now)))
 
 plan-of-replies : (os : List Outcome) → fedPlan (map replyOf os) ≡ planIn os
 unfolding fedPlan planIn
@@ -170,7 +185,8 @@ module _ (rule n : ℕ) (trace : List ℕ) (feeds : feedable rule ≡ true) (som
   pub feeding-gives-the-walk : feeding (emptyCache rule n) trace ≡ map replyOf (outcomes (named (ruleNumbered rule)) n 0 [] trace [])
   feeding-gives-the-walk =
       feeding-walks trace (emptyCache rule n)
-      (fits-first (emptyCache rule n) trace refl (is-sound (emptyCache rule n) (empty-sound rule n feeds some most)) (omega arith) clean)
+      (fits-first (emptyCache rule n) trace (empty-formed rule n) (is-sound (emptyCache rule n) (empty-sound rule n feeds some most)) (omega arith) clean)
+      ∙ ap (λ (es : List Entry). map replyOf (outcomes (named (ruleNumbered rule)) n 0 [] trace es)) (empty-held rule n)
 
   -- so they give the rule's plan
   pub feeding-gives-the-plan : fedPlan (feeding (emptyCache rule n) trace) ≡ plan (named (ruleNumbered rule)) n trace

@@ -2,15 +2,15 @@
 --
 -- In order: the test and its meaning; the entries of a sound record; the empty cache is sound; so is what Fresh hands out.
 -- Assumes nothing.
-use mathlib.Core.Path.{_≡_, refl, sym, ap, ap₂, _∙_}
+use mathlib.Core.Path.{_≡_, refl, sym, ap, ap₂, _∙_, subst}
 use mathlib.Core.Logic.{_⊎_}
 use mathlib.Core.Bool.{Bool, true, false}
 use mathlib.Core.List.{List, [], _∷_, _++_}
-use Prim.Native.Nat.{ℕ, zero, suc, _-_, _≤_, _<_}
+use Prim.Native.Nat.{ℕ, zero, suc, _+_, _-_, _≤_, _<_}
 use native.Mathlib.Numerals.{add-one}
 use native.Mathlib.Omega.{arith}
 use lib.Dec.{eqb}
-use lib.ListN.{length, drop, replicate, length-drop, take-append-drop, getD-replicate}
+use lib.ListN.{length, take, drop, replicate, length-drop, take-append-drop, getD-replicate}
 use lib.Seq.{length-take-le, take-append-seam, drop-append-seam}
 use borrow.Author.Tests.{eqb-true, le-ltb}
 use Rattle.paging.specs.Lists.{pick, not, both, all}
@@ -20,25 +20,32 @@ use Rattle.paging.specs.Calls.{frameLimit, requestLimit, outside}
 use Rattle.paging.specs.declared.Entry.{Entry}
 use Rattle.paging.specs.declared.Gate.the-variants.{Open, No}
 use Rattle.paging.specs.declared.Refusal.the-variants.{UnknownRule, FramesOutside}
-use Rattle.paging.proofs.Lists.{both-first, both-second}
+use Rattle.paging.proofs.Lists.{both-first, both-second, both-true}
 use Rattle.paging.proofs.Held.{apart-nil}
 use Rattle.entries.specs.Blank.{blankEntry}
-use Rattle.soundness.specs.Sound.{feedable, allMarks, blankFrom, Orderly}
+use Rattle.occupancy.specs.Map.{mapWords, onesOf, lowestOnly, mapOf, Words}
+use Rattle.occupancy.proofs.Lowest.{map-none, map-ones, map-lowest, map-words, lowest-map}
+use Rattle.soundness.specs.Sound.{feedable, allMarks, blankFrom, Orderly, soundParts, SoundParts}
 use Rattle.soundness.proofs.Meaning.{of-not, inside, is-outside, met-means, means-met}
 use Rattle.cache.specs.declared.Cache.{Cache}
 use Rattle.cache.specs.declared.Fresh.{Fresh}
-use Rattle.cache.specs.Record.{blankCache, emptyCache, heldOf, heldEntries, padded, holding, freshBy, freshOf}
+use Rattle.cache.specs.Record.{blankCache, emptyCache, heldOf, heldEntries, padded, holding, Formed, freshBy, freshOf}
 use Rattle.cache.specs.Sound.{sound, Sound}
 
 -- ---- the test and its meaning
 
 pub sound-is : (c : Cache) → sound c ≡ true → Sound c
 unfolding sound
-sound-is c e = met-means (c .rule) (c .frames) (c .clock) (heldOf c) (c .entries) e
+sound-is c e =
+    let others : Bool = soundParts (c .rule) (c .frames) (c .clock) (heldOf c) (c .entries) in
+    record {
+      lowest = both-first (lowestOnly (c .map)) others e;
+      parts = met-means (c .rule) (c .frames) (c .clock) (heldOf c) (c .entries) (both-second (lowestOnly (c .map)) others e);
+    }
 
 pub is-sound : (c : Cache) → Sound c → sound c ≡ true
 unfolding sound
-is-sound c s = means-met (c .rule) (c .frames) (c .clock) (heldOf c) (c .entries) s
+is-sound c s = both-true _ _ (s .lowest) (means-met (c .rule) (c .frames) (c .clock) (heldOf c) (c .entries) (s .parts))
 
 -- ---- the entries of a sound record
 
@@ -80,16 +87,20 @@ unfolding blankFrom
 all-blank zero = refl
 all-blank (suc k) = all-blank k
 
-module _ (c : Cache) (size : length (c .entries) ≡ frameLimit) (s : Sound c) where
+module _ (c : Cache) (formed : Formed c) (s : Sound c) where
   pub held-length : length (heldEntries c) ≡ heldOf c
-  held-length = length-take-le (heldOf c) (c .entries) (omega (arith, s .held-frames, s .frames-most))
+  held-length = length-take-le (heldOf c) (c .entries) (omega (arith, formed .all-entries, s .parts .held-frames, s .parts .frames-most))
 
   -- the entries in use, then blank ones
   pub entries-padded : c .entries ≡ padded (heldEntries c)
   entries-padded =
       sym (take-append-drop (heldOf c) (c .entries))
-      ∙ ap (λ (xs : List Entry). heldEntries c ++ xs) (blanks (drop (heldOf c) (c .entries)) (s .blank-after))
-      ∙ ap (λ (k : ℕ). heldEntries c ++ replicate k blankEntry) (let e : length (drop (heldOf c) (c .entries)) ≡ frameLimit - length (heldEntries c) = omega (arith, length-drop (heldOf c) (c .entries), held-length) in e)
+      ∙ ap (λ (xs : List Entry). heldEntries c ++ xs) (blanks (drop (heldOf c) (c .entries)) (s .parts .blank-after))
+      ∙ ap (λ (k : ℕ). heldEntries c ++ replicate k blankEntry) (let e : length (drop (heldOf c) (c .entries)) ≡ frameLimit - length (heldEntries c) = omega (arith, length-drop (heldOf c) (c .entries), formed .all-entries, held-length) in e)
+
+  -- the map of the lowest frames, as many as are in use
+  pub map-held : mapOf (heldOf c) ≡ c .map
+  map-held = lowest-map (c .map) (formed .map-words) (s .lowest)
 
 -- ---- records that are sound
 
@@ -97,35 +108,55 @@ module _ (c : Cache) (size : length (c .entries) ≡ frameLimit) (s : Sound c) w
 pub holding-sound : (c : Cache) (es : List Entry) → Sound c → c .clock < requestLimit → length es ≤ c .frames → length es ≤ suc (c .clock)
     → Orderly (suc (c .clock)) es → Sound (holding c es)
 holding-sound c es s h k l o =
+    let most : length es ≤ frameLimit = omega (arith, s .parts .frames-most) in
     record {
-      feeds = s .feeds;
-      frames-some = s .frames-some;
-      frames-most = s .frames-most;
-      clock-most = omega arith;
-      held-frames = k;
-      held-clock = omega arith;
-      orderly = rw (take-append-seam es (replicate (frameLimit - length es) blankEntry), add-one (c .clock)) o;
-      blank-after = rw (drop-append-seam es (replicate (frameLimit - length es) blankEntry)) (all-blank (frameLimit - length es));
+      lowest = map-lowest (length es) most;
+      parts =
+          subst (λ (held : ℕ). SoundParts (c .rule) (c .frames) (c .clock + 1) held (padded es)) (sym (map-ones (length es) most))
+          (record {
+            feeds = s .parts .feeds;
+            frames-some = s .parts .frames-some;
+            frames-most = s .parts .frames-most;
+            clock-most = omega arith;
+            held-frames = k;
+            held-clock = omega arith;
+            orderly = rw (take-append-seam es (replicate (frameLimit - length es) blankEntry), add-one (c .clock)) o;
+            blank-after = rw (drop-append-seam es (replicate (frameLimit - length es) blankEntry)) (all-blank (frameLimit - length es));
+          });
     }
 
--- THE EMPTY CACHE is sound
+-- THE EMPTY CACHE has a record's form, holds nothing, and is sound
+pub empty-formed : (rule frames : ℕ) → Formed (emptyCache rule frames)
+empty-formed rule frames = record { all-entries = refl; map-words = subst Words map-none (map-words 0) }
+
+none-held : onesOf (replicate mapWords 0) ≡ 0
+none-held = ap onesOf (sym map-none) ∙ map-ones 0 (omega arith)
+
+pub empty-held : (rule frames : ℕ) → heldEntries (emptyCache rule frames) ≡ []
+empty-held rule frames = ap (λ (k : ℕ). take k (replicate frameLimit blankEntry)) none-held
+
 pub empty-sound : (rule frames : ℕ) → feedable rule ≡ true → 1 ≤ frames → frames ≤ frameLimit → Sound (emptyCache rule frames)
 empty-sound rule frames f h k =
     record {
-      feeds = f;
-      frames-some = h;
-      frames-most = k;
-      clock-most = omega arith;
-      held-frames = omega arith;
-      held-clock = omega arith;
-      orderly =
-          record {
-            apart = apart-nil;
-            unmarked = λ i l x. absurd (omega arith);
-            in-time = λ i l. absurd (omega arith);
-            moments-apart = λ i j l m n a b. absurd (omega arith);
-          };
-      blank-after = all-blank frameLimit;
+      lowest = subst (λ (m : List ℕ). lowestOnly m ≡ true) map-none (map-lowest 0 (omega arith));
+      parts =
+          subst (λ (held : ℕ). SoundParts rule frames 0 held (replicate frameLimit blankEntry)) (sym none-held)
+          (record {
+            feeds = f;
+            frames-some = h;
+            frames-most = k;
+            clock-most = omega arith;
+            held-frames = omega arith;
+            held-clock = omega arith;
+            orderly =
+                record {
+                  apart = apart-nil;
+                  unmarked = λ i l x. absurd (omega arith);
+                  in-time = λ i l. absurd (omega arith);
+                  moments-apart = λ i j l m n a b. absurd (omega arith);
+                };
+            blank-after = all-blank frameLimit;
+          });
     }
 
 -- every entry of the blank record and of an empty cache is all marks

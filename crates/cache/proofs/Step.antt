@@ -7,6 +7,7 @@ use mathlib.Core.Logic.{inl, inr}
 use mathlib.Core.Bool.{true, false}
 use mathlib.Core.List.{List, [], _∷_, _++_}
 use Prim.Native.Nat.{ℕ, suc, _+_, _-_, _≤_, _<_}
+use native.Mathlib.Numerals.{add-one}
 use native.Mathlib.Omega.{arith}
 use lib.ListN.{length, set, replicate, length-set}
 use borrow.Author.Tests.{lt-ltb, le-ltb}
@@ -22,16 +23,18 @@ use Rattle.paging.proofs.Choice.{chosen-below}
 use Rattle.paging.proofs.Frames.{Ways, ways, held-frame, outcome-hit, outcome-room, outcome-full, next-hit, next-room, next-full, next-size, next-grows}
 use Rattle.entries.specs.Blank.{blankEntry}
 use Rattle.entries.specs.Devices.Search.{leastFrame}
+use Rattle.occupancy.specs.Map.{lowestZero, mapOf, withFrame}
+use Rattle.occupancy.proofs.Lowest.{map-zero, map-next}
 use Rattle.soundness.proofs.Orderly.{next-orderly}
 use Rattle.steps.specs.Devices.Step.{stepped}
 use Rattle.cache.specs.declared.Cache.{Cache}
 use Rattle.cache.specs.declared.Served.{Served}
-use Rattle.cache.specs.Record.{heldOf, heldEntries, padded, holding, ruleOf}
+use Rattle.cache.specs.Record.{heldOf, heldEntries, padded, holding, ruleOf, Formed}
 use Rattle.cache.specs.Sound.{Sound}
 use Rattle.cache.specs.Feed.{served}
 use Rattle.cache.specs.Devices.Step.{stepOn, onward}
 use Rattle.cache.proofs.Least.{least-chosen}
-use Rattle.cache.proofs.Soundness.{held-length, entries-padded, holding-sound}
+use Rattle.cache.proofs.Soundness.{held-length, entries-padded, map-held, holding-sound}
 
 -- an entry in use, read from the array
 pub entry-held : (c : Cache) (i : ℕ) → i < heldOf c → entryAt (heldEntries c) i ≡ entryAt (c .entries) i
@@ -39,10 +42,10 @@ entry-held c i h = getD-take (heldOf c) (c .entries) i zeroEntry h
 
 -- ---- the three ways of one request, as stores
 
--- the record one request later, with an entry written into a frame
+-- the record one request later, with an entry written into a frame, and so many in use
 abbrev pub placed : Cache → ℕ → Entry → ℕ → Cache
 placed c frame e held =
-    record { rule = c .rule; frames = c .frames; clock = c .clock + 1; held = held; entries = set (c .entries) frame e }
+    record { rule = c .rule; frames = c .frames; clock = c .clock + 1; map = mapOf held; entries = set (c .entries) frame e }
 
 -- a store among the entries in use
 padded-set : (es : List Entry) (f : ℕ) (e : Entry) → f < length es → set (padded es) f e ≡ padded (set es f e)
@@ -64,7 +67,7 @@ padded-snoc es e h =
 abbrev served-as : Outcome → Cache → Served
 served-as o d = record { outcome = o; next = d }
 
-module _ (c : Cache) (size : length (c .entries) ≡ frameLimit) (s : Sound c) (p : ℕ) where
+module _ (c : Cache) (formed : Formed c) (s : Sound c) (p : ℕ) where
   es : List Entry
   es = heldEntries c
 
@@ -73,10 +76,10 @@ module _ (c : Cache) (size : length (c .entries) ≡ frameLimit) (s : Sound c) (
   unfolding es
   written f held e new l w =
       ap₂ (λ (h : ℕ) (xs : List Entry). rebuilt c h xs) l
-      (ap (λ (xs : List Entry). set xs f e) (entries-padded c size s) ∙ w)
+      (ap (λ (xs : List Entry). set xs f e) (entries-padded c formed s) ∙ w)
     where
       rebuilt : Cache → ℕ → List Entry → Cache
-      rebuilt c h xs = record { rule = c .rule; frames = c .frames; clock = c .clock + 1; held = h; entries = xs }
+      rebuilt c h xs = record { rule = c .rule; frames = c .frames; clock = c .clock + 1; map = mapOf h; entries = xs }
 
   pub served-hit : holds p (heldEntries c) ≡ true
       → (frameOf p (heldEntries c) < frameLimit)
@@ -87,11 +90,11 @@ module _ (c : Cache) (size : length (c .entries) ≡ frameLimit) (s : Sound c) (
   served-hit q =
       let f : ℕ = frameOf p es in
       let h : f < length es = held-frame p es q .0 in
-      let k : f < heldOf c = omega (arith, held-length c size s) in
+      let k : f < heldOf c = omega (arith, held-length c formed s) in
       let x : Entry = renewed (c .clock) (entryAt es f) in (
-        omega (arith, s .held-frames, s .frames-most),
+        omega (arith, s .parts .held-frames, s .parts .frames-most),
         rw (outcome-hit (ruleOf c) (c .frames) (c .clock) p noRequests es q, next-hit (ruleOf c) (c .frames) (c .clock) p noRequests es q, ← entry-held c f k)
-            (ap (served-as Hit) (written f (heldOf c) x (set es f x) (omega (arith, held-length c size s, length-set es f x)) (padded-set es f x h))),
+            (ap (served-as Hit) (written f (heldOf c) x (set es f x) (omega (arith, held-length c formed s, length-set es f x)) (padded-set es f x h))),
       )
 
   pub served-room : holds p (heldEntries c) ≡ false → heldOf c < c .frames
@@ -99,17 +102,17 @@ module _ (c : Cache) (size : length (c .entries) ≡ frameLimit) (s : Sound c) (
   unfolding served es
   served-room q h =
       let x : Entry = loadedAt (c .clock) p in
-      let l : length es ≡ heldOf c = held-length c size s in
+      let l : length es ≡ heldOf c = held-length c formed s in
       let k : length es < c .frames = omega arith in
       rw (outcome-room (ruleOf c) (c .frames) (c .clock) p noRequests es q k, next-room (ruleOf c) (c .frames) (c .clock) p noRequests es q k)
       (ap (served-as Loaded)
       (written (heldOf c) (heldOf c + 1) x (es ++ (x ∷ [])) (omega (arith, length-snoc zeroEntry es x))
-      (ap (λ (j : ℕ). set (padded es) j x) (sym l) ∙ padded-snoc es x (omega (arith, s .frames-most)))))
+      (ap (λ (j : ℕ). set (padded es) j x) (sym l) ∙ padded-snoc es x (omega (arith, s .parts .frames-most)))))
 
   -- the frame that the code finds by the least key
   least-drops : 0 < heldOf c → leastFrame (c .rule) (heldEntries c) ≡ chosen (ruleOf c) noRequests (heldEntries c)
   least-drops h =
-      least-chosen (c .clock) (c .rule) (heldEntries c) (s .orderly) (s .clock-most) (s .feeds) (omega (arith, held-length c size s))
+      least-chosen (c .clock) (c .rule) (heldEntries c) (s .parts .orderly) (s .parts .clock-most) (s .parts .feeds) (omega (arith, held-length c formed s))
 
   pub served-full : holds p (heldEntries c) ≡ false → c .frames ≤ heldOf c
       → (chosen (ruleOf c) noRequests (heldEntries c) < frameLimit)
@@ -122,11 +125,11 @@ module _ (c : Cache) (size : length (c .entries) ≡ frameLimit) (s : Sound c) (
   unfolding served es
   served-full q h =
       let x : Entry = loadedAt (c .clock) p in
-      let l : length es ≡ heldOf c = held-length c size s in
+      let l : length es ≡ heldOf c = held-length c formed s in
       let k : c .frames ≤ length es = omega arith in
       let f : ℕ = chosen (ruleOf c) noRequests es in
-      let m : f < length es = chosen-below (ruleOf c) noRequests es (omega (arith, s .frames-some)) in (
-        omega (arith, s .held-frames, s .frames-most),
+      let m : f < length es = chosen-below (ruleOf c) noRequests es (omega (arith, s .parts .frames-some)) in (
+        omega (arith, s .parts .held-frames, s .parts .frames-most),
         rw (
           outcome-full (ruleOf c) (c .frames) (c .clock) p noRequests es q k,
           next-full (ruleOf c) (c .frames) (c .clock) p noRequests es q k,
@@ -137,30 +140,53 @@ module _ (c : Cache) (size : length (c .entries) ≡ frameLimit) (s : Sound c) (
 
 -- ---- what the code does to the parts is the request
 
-pub served-steps : (c : Cache) → length (c .entries) ≡ frameLimit → Sound c → (p : ℕ)
+module _ (c : Cache) (formed : Formed c) (s : Sound c) (o : Outcome) (f : ℕ) (e : Entry) where
+  -- the record that the code writes
+  abbrev written-as : List ℕ → ℕ → Served
+  written-as map frame =
+      record {
+        outcome = o;
+        next = record { rule = c .rule; frames = c .frames; clock = c .clock + 1; map = map; entries = set (c .entries) frame e };
+      }
+
+  -- with the map as it was
+  map-stays : written-as (c .map) f ≡ served-as o (placed c f e (heldOf c))
+  map-stays = ap (λ (m : List ℕ). written-as m f) (sym (map-held c formed s))
+
+  -- with the next free frame taken, which is the one past those in use
+  map-grows : heldOf c < c .frames → written-as (withFrame (c .map) (lowestZero (c .map))) (lowestZero (c .map)) ≡ served-as o (placed c (heldOf c) e (heldOf c + 1))
+  map-grows h =
+      let most : heldOf c < frameLimit = omega (arith, s .parts .frames-most) in
+      let own : mapOf (heldOf c) ≡ c .map = map-held c formed s in
+      let free : lowestZero (c .map) ≡ heldOf c = ap lowestZero (sym own) ∙ map-zero (heldOf c) (omega arith) in
+      let more : withFrame (c .map) (heldOf c) ≡ mapOf (heldOf c + 1) =
+      ap (λ (m : List ℕ). withFrame m (heldOf c)) (sym own) ∙ map-next (heldOf c) most ∙ ap mapOf (sym (add-one (heldOf c))) in
+      ap (λ (k : ℕ). written-as (withFrame (c .map) k) k) free ∙ ap (λ (m : List ℕ). written-as m (heldOf c)) more
+
+pub served-steps : (c : Cache) → Formed c → Sound c → (p : ℕ)
     → _≡_ {A = Served} (record { outcome = stepOn c p .outcome; next = onward c (stepOn c p) }) (served c p)
 unfolding stepped
-served-steps c size s p = go (ways (c .frames) p (heldEntries c))
+served-steps c formed s p = go (ways (c .frames) p (heldEntries c))
   where
     l : length (heldEntries c) ≡ heldOf c
-    l = held-length c size s
+    l = held-length c formed s
 
     go : Ways (c .frames) p (heldEntries c) → _≡_ {A = Served} (record { outcome = stepOn c p .outcome; next = onward c (stepOn c p) }) (served c p)
-    go (inl q) = rw q (served-hit c size s p q .1)
+    go (inl q) = rw q (map-stays c formed s _ _ _ ∙ served-hit c formed s p q .1)
     go (inr (inl (q, h))) =
         let k : heldOf c < c .frames = omega (arith, l) in
-        rw (q, lt-ltb (heldOf c) (c .frames) k) (served-room c size s p q k)
+        rw (q, lt-ltb (heldOf c) (c .frames) k) (map-grows c formed s _ 0 _ k ∙ served-room c formed s p q k)
     go (inr (inr (q, h))) =
         let k : c .frames ≤ heldOf c = omega (arith, l) in
-        rw (q, le-ltb (heldOf c) (c .frames) k, least-drops c size s p (omega (arith, s .frames-some))) (served-full c size s p q k .1)
+        rw (q, le-ltb (heldOf c) (c .frames) k, least-drops c formed s p (omega (arith, s .parts .frames-some))) (map-stays c formed s _ _ _ ∙ served-full c formed s p q k .1)
 
 -- ---- one request keeps a record sound
 
-pub served-sound : (c : Cache) (p : ℕ) → length (c .entries) ≡ frameLimit → Sound c → c .clock < requestLimit → (p ≡ mark → ⊥) → Sound (served c p .next)
+pub served-sound : (c : Cache) (p : ℕ) → Formed c → Sound c → c .clock < requestLimit → (p ≡ mark → ⊥) → Sound (served c p .next)
 unfolding served
-served-sound c p size s h page =
-    let l : length (heldEntries c) ≡ heldOf c = held-length c size s in
+served-sound c p formed s h page =
+    let l : length (heldEntries c) ≡ heldOf c = held-length c formed s in
     holding-sound c (next (ruleOf c) (c .frames) (c .clock) p noRequests (heldEntries c)) s h
-    (next-size (ruleOf c) (c .frames) (c .clock) p noRequests (heldEntries c) (omega (arith, s .held-frames)))
-    (omega (arith, next-grows (ruleOf c) (c .frames) (c .clock) p noRequests (heldEntries c), s .held-clock))
-    (next-orderly (ruleOf c) (c .frames) (c .clock) p noRequests (heldEntries c) (s .orderly) page)
+    (next-size (ruleOf c) (c .frames) (c .clock) p noRequests (heldEntries c) (omega (arith, s .parts .held-frames)))
+    (omega (arith, next-grows (ruleOf c) (c .frames) (c .clock) p noRequests (heldEntries c), s .parts .held-clock))
+    (next-orderly (ruleOf c) (c .frames) (c .clock) p noRequests (heldEntries c) (s .parts .orderly) page)

@@ -14,6 +14,7 @@ use Rattle.paging.specs.declared.Gate.{Gate}
 use Rattle.paging.specs.declared.Gate.the-variants.{Open, No}
 use Rattle.paging.specs.declared.Outcome.{Outcome}
 use Rattle.paging.specs.declared.Refusal.the-variants.{UnsoundRecord, MarkRequested, ClockFull}
+use Rattle.occupancy.specs.Map.{mapOf}
 use Rattle.cache.specs.declared.Cache.{Cache}
 use Rattle.cache.specs.declared.Served.{Served}
 use Rattle.cache.specs.declared.Reply.{Reply}
@@ -81,6 +82,8 @@ pub record Applied (c : Cache) (p : ℕ) (d : Cache) : Type 0 where
   pub rule-stays : d .rule ≡ c .rule
   pub frames-stay : d .frames ≡ c .frames
   pub clock-on : d .clock ≡ c .clock + 1
+  -- exactly so many lowest frames are occupied
+  pub map-now : d .map ≡ mapOf (changedHeld c p)
   pub held-now : heldOf d ≡ changedHeld c p
   -- one frame of the cache has the page, requested at the clock
   pub frame-inside : changedFrame c p < c .frames

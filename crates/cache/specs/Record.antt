@@ -3,6 +3,7 @@
 -- A record is a state of the walk with its list of entries padded to 256 by blank ones.
 -- Assumes nothing.
 use mathlib.Core.List.{List, [], _∷_, _++_}
+use mathlib.Core.Path.{_≡_}
 use Prim.Native.Nat.{ℕ, _+_, _-_}
 use lib.ListN.{length, take, replicate}
 use Rattle.paging.specs.Lists.{not}
@@ -14,6 +15,7 @@ use Rattle.paging.specs.declared.Gate.{Gate}
 use Rattle.paging.specs.declared.Gate.the-variants.{Open, No}
 use Rattle.paging.specs.declared.Refusal.the-variants.{UnknownRule, FramesOutside}
 use Rattle.entries.specs.Blank.{blankEntry}
+use Rattle.occupancy.specs.Map.{mapWords, onesOf, mapOf, Words}
 use Rattle.soundness.specs.Sound.{feedable}
 use Rattle.cache.specs.declared.Cache.{Cache}
 use Rattle.cache.specs.declared.Fresh.{Fresh}
@@ -23,17 +25,17 @@ use Rattle.cache.specs.declared.Fresh.{Fresh}
 -- the empty cache of a given rule and size
 abbrev pub emptyCache : ℕ → ℕ → Cache
 emptyCache rule frames =
-    record { rule = rule; frames = frames; clock = 0; held = 0; entries = replicate frameLimit blankEntry }
+    record { rule = rule; frames = frames; clock = 0; map = replicate mapWords 0; entries = replicate frameLimit blankEntry }
 
--- rule, frames, clock and held zero and every entry all marks
+-- rule, frames, clock and every word of the map zero, and every entry all marks
 abbrev pub blankCache : Cache
 blankCache = emptyCache 0 0
 
 -- ---- what a record holds
 
--- how many entries are in use; every definition asks it here
+-- how many entries are in use, which is the number of ones of the map; every definition asks it here
 abbrev pub heldOf : Cache → ℕ
-heldOf c = c .held
+heldOf c = onesOf (c .map)
 
 -- the entries in use, in frame order
 abbrev pub heldEntries : Cache → List Entry
@@ -47,16 +49,21 @@ ruleOf c = named (ruleNumbered (c .rule))
 abbrev pub padded : List Entry → List Entry
 padded es = es ++ replicate (frameLimit - length es) blankEntry
 
--- the record c with these entries in use, one request later
+-- the record c with these entries in use, in the lowest frames, one request later
 abbrev pub holding : Cache → List Entry → Cache
 holding c es =
     record {
       rule = c .rule;
       frames = c .frames;
       clock = c .clock + 1;
-      held = length es;
+      map = mapOf (length es);
       entries = padded es;
     }
+
+-- a record as its type has it: 256 entries, and a map of four words of 64 bits
+pub record Formed (c : Cache) : Type 0 where
+  pub all-entries : length (c .entries) ≡ frameLimit
+  pub map-words : Words (c .map)
 
 -- ---- Fresh
 

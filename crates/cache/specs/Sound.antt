@@ -1,14 +1,18 @@
--- Document 01, when a record is sound: the conditions of crate `soundness`, at the record's fields, and what they mean.
+-- Document 01, when a record is sound: the conditions of crate `soundness` at the record's fields, of the number of ones of its map; and exactly the lowest bits of the map are set.
 -- Assumes nothing.
-use mathlib.Core.Bool.{Bool}
+use mathlib.Core.Path.{_≡_}
+use mathlib.Core.Bool.{Bool, true}
+use Rattle.paging.specs.Lists.{both}
+use Rattle.occupancy.specs.Map.{lowestOnly}
 use Rattle.soundness.specs.Sound.{soundParts, SoundParts}
 use Rattle.cache.specs.declared.Cache.{Cache}
 use Rattle.cache.specs.Record.{heldOf}
 
 unfoldable pub sound : Cache → Bool
-unfolding soundParts
-sound c = soundParts (c .rule) (c .frames) (c .clock) (heldOf c) (c .entries)
+unfolding soundParts lowestOnly
+sound c = both (lowestOnly (c .map)) (soundParts (c .rule) (c .frames) (c .clock) (heldOf c) (c .entries))
 
--- the same, said of numbers
-abbrev pub Sound : Cache → Type 0
-Sound c = SoundParts (c .rule) (c .frames) (c .clock) (heldOf c) (c .entries)
+-- the same, said of numbers; what `lowestOnly` means, bit by bit, is a law of crate `occupancy` (`lowest-means`)
+pub record Sound (c : Cache) : Type 0 where
+  pub lowest : lowestOnly (c .map) ≡ true
+  pub parts : SoundParts (c .rule) (c .frames) (c .clock) (heldOf c) (c .entries)

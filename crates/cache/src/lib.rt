@@ -17,11 +17,12 @@ use paging::Outcome;
 use paging::Page;
 use paging::Refusal;
 
+// The map has a bit for each frame, low bits first: how many are set is how many pages the cache holds.
 pub struct Cache {
     pub rule: u32,
     pub frames: u32,
     pub clock: u32,
-    pub held: u32,
+    pub map: [u64; occupancy::WORDS],
     pub entries: [Entry; Cache::FRAMES as usize],
 }
 
@@ -65,7 +66,7 @@ impl Cache {
 
     pub const REQUESTS: u32 = calls::REQUESTS as u32;
 
-    // Rule, frames, clock and held zero, every entry all marks.
+    // Rule, frames, clock and the map zero, every entry all marks.
     pub fn blank() -> Cache
         ensures { λ r. ⌜ r ≡ blankCache ⌝ }
     {
@@ -82,7 +83,7 @@ impl Cache {
             rule: rule,
             frames: frames,
             clock: 0,
-            held: 0,
+            map: [0u64; occupancy::WORDS],
             entries: entries,
         }
     }
@@ -113,8 +114,18 @@ impl Cache {
     pub fn sound(self) -> bool
         ensures { λ r. ⌜ r ≡ sound self ⌝ }
     {
+        let map = self.map;
+        if !occupancy::lowest_only(map) {
+            return false;
+        }
         let entries = self.entries;
-        soundness::sound_parts(self.rule, self.frames, self.clock, self.held, entries)
+        soundness::sound_parts(
+            self.rule,
+            self.frames,
+            self.clock,
+            occupancy::held(map),
+            entries,
+        )
     }
 
     // One request of a sound record.
@@ -122,22 +133,24 @@ impl Cache {
         requires { ⌜ (sound self ≡ true) × (self .clock < requestLimit) ⌝ }
         ensures { λ r. ⌜ r ≡ served self (page .0) ⌝ }
     {
+        let map = self.map;
         let entries = self.entries;
         let s = steps::step(
             self.rule,
             self.frames,
             Moment(self.clock),
-            self.held,
+            map,
             entries,
             page,
         );
         let outcome = s.outcome;
+        let occupied = s.map;
         let after = s.entries;
         let next = Cache {
             rule: self.rule,
             frames: self.frames,
             clock: self.clock + 1,
-            held: s.held,
+            map: occupied,
             entries: after,
         };
         Served {

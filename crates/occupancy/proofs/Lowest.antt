@@ -136,6 +136,11 @@ lowest-test map = go (noneFrom (onesIn bits) bits) refl (eqb (indexOf not bits) 
 
 -- ---- the map of the lowest frames
 
+-- of none: all words zero
+pub map-none : mapOf 0 ≡ replicate mapWords 0
+unfolding mapOf
+map-none = refl
+
 module _ (h : ℕ) (most : h ≤ frameLimit) where
   pub map-bits : bitsOf (mapOf h) ≡ lowestBits h
   unfolding mapOf

@@ -8,15 +8,15 @@ use Rattle.paging.specs.declared.Outcome.{Outcome}
 use Rattle.steps.specs.declared.After.{After}
 use Rattle.steps.specs.Devices.Step.{stepped}
 use Rattle.cache.specs.declared.Cache.{Cache}
-use Rattle.cache.specs.Record.{heldOf, heldEntries, ruleOf}
+use Rattle.cache.specs.Record.{heldEntries, ruleOf}
 
 -- the request over the record's parts
 abbrev pub stepOn : Cache → ℕ → After
-stepOn c p = stepped (c .rule) (c .frames) (c .clock) p (heldOf c) (c .entries)
+stepOn c p = stepped (c .rule) (c .frames) (c .clock) p (c .map) (c .entries)
 
 -- the record with what came of them
 abbrev pub onward : Cache → After → Cache
-onward c a = record { rule = c .rule; frames = c .frames; clock = c .clock + 1; held = a .held; entries = a .entries }
+onward c a = record { rule = c .rule; frames = c .frames; clock = c .clock + 1; map = a .map; entries = a .entries }
 
 -- what feeding requests to a record comes to
 abbrev pub outcomesFrom : Cache → List ℕ → List Outcome

@@ -46,7 +46,7 @@ serve-requires : tie.Need-serve-requires
 serve-requires c κs =
     let s = known (c .before .before .before .before) in
     let k : Sound (c .before .before .before .before .before .before .args .self) = sound-is _ s in
-    (s, omega (arith, k .clock-most, c .if3 .left))
+    (s, omega (arith, k .parts .clock-most, c .if3 .left))
 
 reply-requires : tie.Need-reply-requires
 reply-requires c κs = search needs
