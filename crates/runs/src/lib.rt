@@ -23,17 +23,17 @@ fn run_from_empty(rule: u32, n: u32, trace: &[u32], words: &mut [u32]) -> u32
 {
     let blank = entries::blank_entry();
     let mut entries = [blank; calls::FRAMES as usize];
-    let mut held: u32 = 0;
+    let mut map = [0u64; occupancy::WORDS];
     let mut faults: u32 = 0;
     let mut i: usize = 0;
     while i < trace.len() {
-        let s = steps::step(rule, n, Moment(i as u32), held, entries, Page(trace[i]));
+        let s = steps::step(rule, n, Moment(i as u32), map, entries, Page(trace[i]));
         let o = s.outcome;
         faults += o.fault();
         if i < words.len() {
             words[i] = o.word();
         }
-        held = s.held;
+        map = s.map;
         entries = s.entries;
         i += 1;
     }

@@ -13,10 +13,10 @@ use Rattle.runs.proofs.run_from_empty.Statement.{statement}
 use Rattle.runs.proofs.run_from_empty.Tie as tie
 
 abbrev Inv-loop : tie.InvT-loop
-Inv-loop rule n trace words₀ entries₀ held₀ faults₀ i₀ words entries held faults i = Running rule n trace words₀ words entries held faults i
+Inv-loop rule n trace words₀ entries₀ map₀ faults₀ i₀ words entries map faults i = Running rule n trace words₀ words entries map faults i
 
 abbrev μ-loop : tie.MeasureT-loop
-μ-loop rule n trace words₀ entries₀ held₀ faults₀ i₀ words entries held faults i = length trace - i
+μ-loop rule n trace words₀ entries₀ map₀ faults₀ i₀ words entries map faults i = length trace - i
 
 blank-entry-requires : tie.Need-blank-entry-requires Inv-loop μ-loop
 blank-entry-requires c κs = search needs
@@ -28,7 +28,7 @@ loop-holds c =
 
 cast-faults : tie.Need-cast-faults Inv-loop μ-loop
 cast-faults c =
-    let loop = c .before .loop in omega (arith, requests-few _ _ _ _ (loop .words) (loop .entries) (loop .held) (loop .faults) (loop .i) (loop .inv))
+    let loop = c .before .loop in omega (arith, requests-few _ _ _ _ (loop .words) (loop .entries) (loop .map) (loop .faults) (loop .i) (loop .inv))
 
 mul-t12 : tie.Need-mul-t12 Inv-loop μ-loop
 mul-t12 c = search needs
@@ -45,7 +45,7 @@ fault-requires c κs = search needs
 add-faults : tie.Need-add-faults Inv-loop μ-loop
 add-faults c =
     let loop = c .before .before .before .before .loop in
-    let next = running-steps _ _ _ _ (loop .words) (loop .entries) (loop .held) (loop .faults) (loop .i) (loop .inv) (c .before .before .before .loop-test .taken) in
+    let next = running-steps _ _ _ _ (loop .words) (loop .entries) (loop .map) (loop .faults) (loop .i) (loop .inv) (c .before .before .before .loop-test .taken) in
     omega (
       arith,
       next .reading .few,
@@ -70,22 +70,22 @@ loop-less c = search needs
 
 loop-again : tie.Need-loop-again Inv-loop μ-loop
 loop-again c =
-    let loop = c .before .before .before .before .before .before .loop in
-    let more = c .before .before .before .before .before .loop-test .taken in
+    let loop = c .before .before .before .before .before .before .before .loop in
+    let more = c .before .before .before .before .before .before .loop-test .taken in
     ⊎-elim
     (λ w.
-    rw (w .2, w .1 .ensures, c .before .before .fault .ensures, c .before .before .before .step .ensures)
-    (running-steps _ _ _ _ (loop .words) (loop .entries) (loop .held) (loop .faults) (loop .i) (loop .inv) more))
+    rw (w .2, w .1 .ensures, c .before .before .before .fault .ensures, c .before .before .before .before .step .ensures)
+    (running-steps _ _ _ _ (loop .words) (loop .entries) (loop .map) (loop .faults) (loop .i) (loop .inv) more))
     (λ w.
-    rw (w .1, c .before .before .fault .ensures, c .before .before .before .step .ensures)
-    (running-passes _ _ _ _ (loop .words) (loop .entries) (loop .held) (loop .faults) (loop .i) (loop .inv) more (w .0 .left)))
-    (c .before .if1 .came)
+    rw (w .1, c .before .before .before .fault .ensures, c .before .before .before .before .step .ensures)
+    (running-passes _ _ _ _ (loop .words) (loop .entries) (loop .map) (loop .faults) (loop .i) (loop .inv) more (w .0 .left)))
+    (c .before .before .if1 .came)
 
 same-length : tie.Need-same-length Inv-loop μ-loop
 same-length c = c .before .loop .inv .reading .same-length
 
 returns : tie.Need-returns Inv-loop μ-loop
-returns c = let loop = c .before .loop in running-ends _ _ _ _ (loop .words) (loop .entries) (loop .held) (loop .faults) (loop .i) (loop .inv) (c .loop-test .left)
+returns c = let loop = c .before .loop in running-ends _ _ _ _ (loop .words) (loop .entries) (loop .map) (loop .faults) (loop .i) (loop .inv) (c .loop-test .left)
 
 pub run-from-empty-spec : {M : Type 1} → statement M
 run-from-empty-spec =
