@@ -5,6 +5,7 @@
 #![allow(clippy::all)]
 
 mod bundle;
+mod map;
 mod plans;
 mod record;
 mod report;
@@ -12,6 +13,7 @@ mod rules;
 mod words;
 
 pub use bundle::{read_bundle, write_bundle, ReadReply, WriteReply};
+pub use map::{lowest, ones};
 pub use plans::{better, better_words, check, Verdict};
 pub use record::{blank, feed, feed_own, fresh, sound, Fed, Outcome, Record};
 pub use report::report;

@@ -1,6 +1,7 @@
 //! The cache record: the blank one, a fresh one, when one is sound, and how it is fed.
 //! A cache of rule 1, 2 or 4 is fed one request at a time, going by the entries as they stand.
 
+use crate::map::{exactly_lowest, lowest_zero, ones, with};
 use crate::{frames_allowed, FIFO, LRU, LRU_2, MARK, MOST_FRAMES, MOST_REQUESTS};
 
 /// Where each word stands in a frame entry.
@@ -11,14 +12,14 @@ const EARLIER: usize = 3;
 
 const BLANK_ENTRY: [u32; 4] = [MARK; 4];
 
-/// Rule, frames, clock (requests served), held, and 256 entries of
+/// Rule, frames, clock (requests served), the map of occupied frames, and 256 entries of
 /// page, moment loaded, moment of last request, moment of the request before that.
 #[derive(Clone, Copy, Debug, PartialEq, Eq)]
 pub struct Record {
     pub rule: u32,
     pub frames: u32,
     pub clock: u32,
-    pub held: u32,
+    pub map: [u64; 4],
     pub entries: [[u32; 4]; 256],
 }
 
@@ -42,13 +43,13 @@ pub struct Fed {
     pub next: Record,
 }
 
-/// The blank record: four zeros, and every entry all marks.
+/// The blank record: zeros, no bit of the map set, and every entry all marks.
 pub fn blank() -> Record {
     Record {
         rule: 0,
         frames: 0,
         clock: 0,
-        held: 0,
+        map: [0; 4],
         entries: [BLANK_ENTRY; 256],
     }
 }
@@ -67,7 +68,7 @@ pub fn fresh(rule: u32, n: u32) -> (u32, u32, Record) {
     (0, 0, record)
 }
 
-/// Document 01's paragraph, one condition after the other.
+/// Document 01's paragraph, one condition after the other, with the map's ones as the number held.
 pub fn sound(record: &Record) -> bool {
     if !rule_can_be_fed(record.rule) {
         return false;
@@ -78,10 +79,14 @@ pub fn sound(record: &Record) -> bool {
     if record.clock > MOST_REQUESTS as u32 {
         return false;
     }
-    if record.held > record.frames || record.held > record.clock {
+    let held = ones(&record.map);
+    if held > record.frames || held > record.clock {
         return false;
     }
-    let held = record.held as usize;
+    if !exactly_lowest(&record.map) {
+        return false;
+    }
+    let held = held as usize;
     pages_distinct(record, held)
         && moments_in_order(record, held)
         && no_moment_in_two_entries(record, held)
@@ -102,10 +107,10 @@ pub fn feed(record: &Record, page: u32) -> Fed {
     if let Some(frame) = frame_of_page(record, page) {
         return hit(record, frame);
     }
-    if record.held < record.frames {
-        return load_with_room(record, page);
+    match lowest_zero(&record.map) {
+        Some(frame) if ones(&record.map) < record.frames => load_with_room(record, frame, page),
+        _ => load_with_drop(record, page),
     }
-    load_with_drop(record, page)
 }
 
 /// The thin form: the record is updated where it stands, with the same answers.
@@ -193,7 +198,7 @@ fn rest_all_marks(record: &Record, held: usize) -> bool {
 }
 
 fn frame_of_page(record: &Record, page: u32) -> Option<usize> {
-    for frame in 0..record.held as usize {
+    for frame in 0..ones(&record.map) as usize {
         if record.entries[frame][PAGE] == page {
             return Some(frame);
         }
@@ -230,11 +235,11 @@ fn hit(record: &Record, frame: usize) -> Fed {
     accepted(0, MARK, next)
 }
 
-/// No frame becomes free again, so the lowest free frame is the one numbered `held`.
-fn load_with_room(record: &Record, page: u32) -> Fed {
+/// The page goes into the lowest free frame, whose bit is set.
+fn load_with_room(record: &Record, frame: usize, page: u32) -> Fed {
     let mut next = *record;
-    next.entries[record.held as usize] = entry_just_loaded(record, page);
-    next.held = record.held + 1;
+    next.entries[frame] = entry_just_loaded(record, page);
+    next.map = with(&record.map, frame);
     next.clock = record.clock + 1;
     accepted(1, MARK, next)
 }
@@ -253,7 +258,7 @@ fn entry_just_loaded(record: &Record, page: u32) -> [u32; 4] {
 
 /// The record's rule, applied to its entries as they stand.
 fn frame_to_drop(record: &Record) -> usize {
-    let all: Vec<usize> = (0..record.held as usize).collect();
+    let all: Vec<usize> = (0..ones(&record.map) as usize).collect();
     match record.rule {
         LRU => earliest(record, &all, LAST),
         FIFO => earliest(record, &all, LOADED),

@@ -1,4 +1,5 @@
-//! A record in words, as callers outside keep one: rule, frames, clock, held, then the entries.
+//! A record in words, as callers outside keep one: rule, frames, clock, the map, then the entries.
+//! Each word of the map takes two: its low half, then its high half.
 //! Too few words are no record: 5 where one is read, 6 where one is written, after every other
 //! refusal; words that are too few stay as they were.
 
@@ -6,7 +7,14 @@ use crate::record::{blank, feed_own, fresh, sound, Outcome, Record};
 use crate::{MARK, MOST_FRAMES};
 
 /// The words of a record.
-pub const RECORD_WORDS: usize = 4 + 4 * MOST_FRAMES as usize;
+pub const RECORD_WORDS: usize = ENTRIES + 4 * MOST_FRAMES as usize;
+
+/// Where the map and the entries begin.
+const MAP: usize = 3;
+const ENTRIES: usize = MAP + 8;
+
+/// The values that half a word of the map can have.
+const HALF: u64 = 4_294_967_296;
 
 /// Fresh: number and place. The record goes into the words.
 pub fn fresh_words(rule: u32, n: u32, words: &mut [u32]) -> (u32, u32) {
@@ -60,10 +68,14 @@ fn record_in(words: &[u32]) -> Option<Record> {
     record.rule = words[0];
     record.frames = words[1];
     record.clock = words[2];
-    record.held = words[3];
+    for word in 0..4 {
+        let low = words[MAP + 2 * word];
+        let high = words[MAP + 2 * word + 1];
+        record.map[word] = u64::from(low) + HALF * u64::from(high);
+    }
     for frame in 0..MOST_FRAMES as usize {
         for word in 0..4 {
-            record.entries[frame][word] = words[4 + 4 * frame + word];
+            record.entries[frame][word] = words[ENTRIES + 4 * frame + word];
         }
     }
     Some(record)
@@ -77,10 +89,13 @@ fn put(record: &Record, words: &mut [u32]) {
     words[0] = record.rule;
     words[1] = record.frames;
     words[2] = record.clock;
-    words[3] = record.held;
+    for word in 0..4 {
+        words[MAP + 2 * word] = (record.map[word] % HALF) as u32;
+        words[MAP + 2 * word + 1] = (record.map[word] / HALF) as u32;
+    }
     for frame in 0..MOST_FRAMES as usize {
         for word in 0..4 {
-            words[4 + 4 * frame + word] = record.entries[frame][word];
+            words[ENTRIES + 4 * frame + word] = record.entries[frame][word];
         }
     }
 }

@@ -11,7 +11,7 @@ fn three(rule: u32) -> Record {
     record.rule = rule;
     record.frames = 3;
     record.clock = 20;
-    record.held = 3;
+    record.map = lowest(3);
     record.entries[0] = [50, 9, 9, M];
     record.entries[1] = [60, 2, 19, 2];
     record.entries[2] = [70, 3, 8, 5];
@@ -50,8 +50,8 @@ fn each_condition_alone() {
     for clock in [0, 2, 19, 8_001, M] {
         assert!(!changed(|r| r.clock = clock));
     }
-    for held in [0, 2, 4, 257, M] {
-        assert!(!changed(|r| r.held = held));
+    for held in [0, 2, 4, 64, 256] {
+        assert!(!changed(|r| r.map = lowest(held)));
     }
     // Pages: the mark, and one twice.
     assert!(!changed(|r| r.entries[0][0] = M));
@@ -88,7 +88,7 @@ fn fresh_refuses() {
     let (number, place, record) = fresh(LRU_2, 256);
     assert_eq!((number, place), (0, 0));
     assert_eq!((record.rule, record.frames), (4, 256));
-    assert_eq!((record.clock, record.held), (0, 0));
+    assert_eq!((record.clock, record.map), (0, [0; 4]));
     assert_eq!(record.entries, blank().entries);
 }
 
@@ -117,7 +117,7 @@ fn feed_with_room_and_hits() {
         let fed = feed(&record, 80);
         let mut next = record;
         next.clock = 21;
-        next.held = 4;
+        next.map = lowest(4);
         next.entries[3] = [80, 20, 20, M];
         assert_eq!((fed.number, fed.kind, fed.page), (0, 1, M));
         assert_eq!(fed.next, next);
