@@ -63,7 +63,7 @@ extern "C" {
         answer_len: usize,
     );
 
-    /// record: 1,028 words, written. answer: number, place.
+    /// record: 1,035 words, written. answer: number, place.
     #[cfg(feature = "records")]
     fn hedravos_fresh(
         rule: u32,
@@ -74,11 +74,11 @@ extern "C" {
         answer_len: usize,
     );
 
-    /// record: 1,028 words, read. answer: 1 if sound, else 0.
+    /// record: 1,035 words, read. answer: 1 if sound, else 0.
     #[cfg(feature = "records")]
     fn hedravos_sound(record: *const u32, record_len: usize, answer: *mut u32, answer_len: usize);
 
-    /// record: 1,028 words, read; next: 1,028 words, written. answer: number, place, kind, page.
+    /// record: 1,035 words, read; next: 1,035 words, written. answer: number, place, kind, page.
     #[cfg(feature = "records")]
     fn hedravos_feed(
         record: *const u32,
@@ -90,7 +90,7 @@ extern "C" {
         answer_len: usize,
     );
 
-    /// record: 1,028 words, updated where they stand. answer: number, place, kind, page.
+    /// record: 1,035 words, updated where they stand. answer: number, place, kind, page.
     #[cfg(feature = "own-record")]
     fn hedravos_feed_own(
         record: *mut u32,
@@ -138,9 +138,10 @@ extern "C" {
     );
 }
 
-/// Rule, frames, clock, held, then page, loaded, last, earlier of each of 256 entries.
+/// Rule, frames, clock, the map of occupied frames as eight halves of words, low half first, then
+/// page, loaded, last, earlier of each of 256 entries.
 #[cfg(feature = "records")]
-pub const RECORD_WORDS: usize = 4 + 4 * 256;
+pub const RECORD_WORDS: usize = 3 + 8 + 4 * 256;
 /// The room lent for a report's text.
 #[cfg(feature = "report")]
 pub const TEXT_BYTES: usize = 256;

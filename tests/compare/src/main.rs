@@ -7,6 +7,8 @@ mod calls;
 mod cases;
 mod judge;
 mod lent;
+#[cfg(feature = "records")]
+mod map_cases;
 #[cfg(feature = "self-check")]
 mod mirror;
 #[cfg(feature = "records")]
@@ -44,6 +46,12 @@ const GROUPS: &[Group] = &[
     ("shared moment", records::shared_moments),
     #[cfg(feature = "records")]
     ("last request", records::last_requests),
+    #[cfg(feature = "records")]
+    ("map", records::maps),
+    #[cfg(feature = "records")]
+    ("damaged map", records::damaged_maps),
+    #[cfg(feature = "records")]
+    ("random map", records::random_maps),
     #[cfg(feature = "records")]
     ("short record", records::short_records),
     #[cfg(feature = "records")]
@@ -141,5 +149,28 @@ mod tests {
             println!("damage {kind}: {unsound} of 200 unsound");
             assert!(unsound >= 60, "damage {kind}: {unsound} of 200");
         }
+    }
+
+    /// Maps left alone are sound, a flipped bit never is, and by lot both come up.
+    #[test]
+    fn maps_are_what_they_should_be() {
+        for held in map_cases::HELD {
+            let record = map_cases::cache(second::LRU, held, 256);
+            assert!(map_cases::with_map(&record, record.map)
+                .iter()
+                .all(second::sound));
+            for bit in 0..256 {
+                let map = map_cases::flipped(&record.map, bit);
+                assert!(!second::sound(&map_cases::with_map(&record, map)[0]));
+            }
+        }
+        let mut rng = cases::Rng::new(1);
+        let mut sound = 0;
+        for _ in 0..200 {
+            let record = map_cases::cache(second::LRU, 0, 256);
+            let map = map_cases::random(&mut rng);
+            sound += u32::from(second::sound(&map_cases::with_map(&record, map)[1]));
+        }
+        assert!((20..=180).contains(&sound), "{sound} of 200 sound");
     }
 }

@@ -1,7 +1,8 @@
 //! The second program behind the same C functions, so that the comparison can try itself.
 //! It can be told to make one mistake; the comparison must then find it.
 
-use second::{Outcome, Record, Reply, MARK, RECORD_WORDS};
+use crate::map_cases::{flipped, has, Map};
+use second::{lowest, ones, Outcome, Record, Reply, MARK, RECORD_WORDS};
 use std::slice::{from_raw_parts, from_raw_parts_mut};
 use std::sync::atomic::{AtomicU32, Ordering};
 
@@ -14,7 +15,7 @@ fn mistake(number: u32) -> bool {
 
 /// Each mistake, the group of cases that must find it, and what it is.
 #[cfg(test)]
-pub const MISTAKES: [(u32, &str, &str); 43] = [
+pub const MISTAKES: [(u32, &str, &str); 60] = [
     (1, "count", "a hit renews a page in FIFO"),
     (2, "plan", "MIN drops the highest of the dead pages"),
     (3, "plan", "the word after the plan is written"),
@@ -76,9 +77,9 @@ pub const MISTAKES: [(u32, &str, &str); 43] = [
     (
         35,
         "short record",
-        "1,027 words are read as if a zero followed",
+        "1,034 words are read as if a zero followed",
     ),
-    (36, "short record", "1,027 words are fed all the same"),
+    (36, "short record", "1,034 words are fed all the same"),
     (
         37,
         "short record",
@@ -102,6 +103,47 @@ pub const MISTAKES: [(u32, &str, &str); 43] = [
         "the thin form puts a word into a record of too few",
     ),
     (43, "run", "the thin form leaves the record as it came"),
+    (44, "map", "only the first word of the map is counted"),
+    (45, "damaged map", "a gap in the map is overlooked"),
+    (
+        46,
+        "damaged map",
+        "bits above the lowest zero are overlooked",
+    ),
+    (47, "damaged map", "only the number of ones is judged"),
+    (48, "damaged map", "bits at or beyond frames are overlooked"),
+    (49, "map", "the halves of a word change places"),
+    (50, "map", "the high bits of a word come first"),
+    (51, "map", "the next free frame is one too high"),
+    (52, "map", "a load sets no bit outside the first word"),
+    (53, "map", "a drop with all 256 frames held clears the map"),
+    (
+        54,
+        "damaged map",
+        "Feed takes as many frames as there are ones",
+    ),
+    (
+        55,
+        "damaged map",
+        "a map that is refused is handed back mended",
+    ),
+    (56, "random map", "8 comes before 5 where a bit is astray"),
+    (
+        57,
+        "damaged map",
+        "the thin form takes as many frames as there are ones",
+    ),
+    (
+        58,
+        "damaged map",
+        "the thin form mends a map that it refuses",
+    ),
+    (
+        59,
+        "fresh",
+        "the bits of all frames are set in a fresh record",
+    ),
+    (60, "short record", "a record with a number is taken"),
 ];
 
 unsafe fn list<'a, T>(start: *const T, length: usize) -> &'a [T] {
@@ -119,10 +161,13 @@ fn record_of(words: &[u32]) -> Record {
     record.rule = word(0);
     record.frames = word(1);
     record.clock = word(2);
-    record.held = word(3);
+    for place in 0..4 {
+        let [low, high] = [3, 4].map(|half| u64::from(word(half + 2 * place)));
+        record.map[place] = high << 32 | low;
+    }
     for frame in 0..256 {
         for part in 0..4 {
-            record.entries[frame][part] = word(4 + 4 * frame + part);
+            record.entries[frame][part] = word(11 + 4 * frame + part);
         }
     }
     record
@@ -338,6 +383,11 @@ unsafe extern "C" fn hedravos_fresh(
     if mistake(12) && number != 0 && record_len >= RECORD_WORDS {
         words[0] = rule;
     }
+    if mistake(59) && number == 0 {
+        let mut filled = record_of(words);
+        filled.map = lowest(n);
+        lay_out(&filled, words);
+    }
     if mistake(38) && record_len < RECORD_WORDS {
         number = 6;
     }
@@ -356,17 +406,19 @@ unsafe extern "C" fn hedravos_sound(
 ) {
     let words = list(record, record_len);
     let mut judged = record_of(words);
-    if mistake(13) && judged.held <= 256 {
-        judged.entries[judged.held as usize..].fill([MARK; 4]);
+    judged.map = map_read(&judged);
+    let held = ones(&judged.map);
+    if mistake(13) {
+        judged.entries[held as usize..].fill([MARK; 4]);
     }
     if mistake(14) && judged.clock < 8_000 {
         judged.clock += 1;
     }
     let mut sound = second::sound(&judged);
-    if mistake(31) && judged.held == 2 {
+    if mistake(31) && held == 2 {
         // Each entry by itself is judged, the two never side by side.
         let mut one = judged;
-        one.held = 1;
+        one.map = lowest(1);
         one.entries[1] = [MARK; 4];
         let mut two = one;
         two.entries[0] = judged.entries[1];
@@ -375,7 +427,46 @@ unsafe extern "C" fn hedravos_sound(
     if record_len < RECORD_WORDS && !mistake(35) {
         sound = second::sound_words(words);
     }
+    if mistake(60) && record_len == 1_028 {
+        sound = sound_with_a_number(words);
+    }
     lent(answer, answer_len).copy_from_slice(&[u32::from(sound)]);
+}
+
+/// Soundness of a record as it was before the map, with the number of held frames in its place.
+fn sound_with_a_number(words: &[u32]) -> bool {
+    let mut record = record_of(&[&words[..3], &[0; 8], &words[4..]].concat());
+    record.map = lowest(words[3].min(256));
+    second::sound(&record)
+}
+
+/// The map as it is judged, with the mistakes that are in the reading of it.
+fn map_read(record: &Record) -> Map {
+    let mut map = record.map;
+    let set = |&frame: &usize| has(&record.map, frame);
+    if mistake(44) {
+        map = [map[0], 0, 0, 0];
+    }
+    if mistake(45) {
+        map = lowest((0..256).rev().find(set).map_or(0, |frame| frame as u32 + 1));
+    }
+    if mistake(46) {
+        map = lowest((0..256).take_while(set).count() as u32);
+    }
+    if mistake(47) {
+        map = lowest(ones(&map));
+    }
+    if mistake(48) {
+        let within = lowest(record.frames.min(256));
+        map = [0, 1, 2, 3].map(|place| map[place] & within[place]);
+    }
+    if mistake(49) {
+        map = map.map(|word| word.rotate_left(32));
+    }
+    if mistake(50) {
+        map = map.map(u64::reverse_bits);
+    }
+    map
 }
 
 #[no_mangle]
@@ -392,7 +483,13 @@ unsafe extern "C" fn hedravos_feed(
     let room = lent(next, next_len);
     let mut told = second::feed_words(words, page, room);
     if next_len >= RECORD_WORDS && record_len >= RECORD_WORDS {
-        mistakes_of_feed(&record_of(words), room, &mut told);
+        let given = record_of(words);
+        let closed = closed_up(words);
+        if mistake(54) && second::sound_words(&closed) {
+            told = second::feed_words(&closed, page, room);
+        }
+        mistakes_of_feed(&given, room, &mut told);
+        mistakes_of_map(&given, room, &mut told);
     }
     mistakes_of_length(words, page, room, &mut told);
     let numbers = [told.number, told.place, told.kind, told.page];
@@ -423,6 +520,36 @@ fn mistakes_of_feed(given: &Record, room: &mut [u32], told: &mut Outcome) {
         next.entries[0][1] = next.entries[0][3];
     }
     lay_out(&next, room);
+}
+
+/// Mistakes in the map of the next record.
+fn mistakes_of_map(given: &Record, room: &mut [u32], told: &mut Outcome) {
+    let held = ones(&given.map) as usize;
+    let mut next = record_of(room);
+    if mistake(51) && told.kind == 1 && held < 255 {
+        next.map = flipped(&given.map, held + 1);
+        next.entries.swap(held, held + 1);
+    }
+    if mistake(52) && told.kind == 1 && held >= 64 {
+        next.map = given.map;
+    }
+    if mistake(53) && told.kind == 2 && held == 256 {
+        next.map = [0; 4];
+    }
+    if mistake(55) && told.number == 5 {
+        next.map = lowest(held as u32);
+    }
+    if mistake(56) && told.number == 5 && given.clock == 8_000 {
+        told.number = 8;
+    }
+    lay_out(&next, room);
+}
+
+/// A record's words with as many of the map's lowest bits set as it has ones.
+fn closed_up(words: &[u32]) -> Vec<u32> {
+    let mut record = record_of(words);
+    record.map = lowest(ones(&record.map));
+    crate::record_cases::words_of(&record)
 }
 
 /// Mistakes with too few words, of the record or of the room for the next one.
@@ -460,12 +587,20 @@ unsafe extern "C" fn hedravos_feed_own(
 ) {
     let words = lent(record, record_len);
     let came = words.to_vec();
-    let told = second::feed_own_words(words, page);
+    let mut told = second::feed_own_words(words, page);
     if mistake(42) && record_len < RECORD_WORDS && record_len > 0 {
         words[0] ^= 1;
     }
     if mistake(43) && told.number == 0 {
         words.copy_from_slice(&came);
+    }
+    let closed = closed_up(&came);
+    if mistake(57) && record_len >= RECORD_WORDS && second::sound_words(&closed) {
+        words[..RECORD_WORDS].copy_from_slice(&closed);
+        told = second::feed_own_words(words, page);
+    }
+    if mistake(58) && record_len >= RECORD_WORDS && told.number == 5 {
+        words[..RECORD_WORDS].copy_from_slice(&closed);
     }
     let numbers = [told.number, told.place, told.kind, told.page];
     lent(answer, answer_len).copy_from_slice(&numbers);

@@ -1,13 +1,17 @@
 //! Records for the comparison: from runs, sound ones that no run reaches, and damaged ones.
-//! A record is laid out as 1,028 words: rule, frames, clock, held, then the entries.
+//! A record is laid out as 1,035 words: rule, frames, clock, the map's halves, then the entries.
 
 use crate::cases::{self, Rng};
 use crate::judge::RECORD_WORDS;
-use second::{Record, MARK};
+use crate::map_cases::flipped;
+use second::{lowest, ones, Record, MARK};
 
 /// The record as words, in the order that the exports take.
 pub fn words_of(record: &Record) -> Vec<u32> {
-    let mut words = vec![record.rule, record.frames, record.clock, record.held];
+    let mut words = vec![record.rule, record.frames, record.clock];
+    for word in record.map {
+        words.extend([word as u32, (word >> 32) as u32]);
+    }
     for entry in &record.entries {
         words.extend_from_slice(entry);
     }
@@ -45,7 +49,7 @@ pub fn ends_in_zero(rng: &mut Rng) -> Record {
     let mut record = second::blank();
     record.rule = feedable_rule(rng);
     record.frames = 256;
-    record.held = 256;
+    record.map = lowest(256);
     record.clock = rng.pick(&[257, 600, 7_999]);
     for frame in 0..255 {
         record.entries[frame as usize] = [1_000 + frame, 1 + frame, 1 + frame, MARK];
@@ -67,7 +71,7 @@ pub fn drawn(rng: &mut Rng) -> Record {
     };
     let kinds: Vec<usize> = (0..held).map(|_| kind_of_entry(rng)).collect();
     let needed: usize = kinds.iter().sum();
-    record.held = held as u32;
+    record.map = lowest(held as u32);
     record.clock = drawn_clock(rng, needed);
     let mut moments = distinct_moments(rng, record.clock as usize, needed);
     let first_page = rng.word();
@@ -121,7 +125,7 @@ fn entry(page: u32, moments: &[u32]) -> [u32; 4] {
 
 /// A page to feed: held, new, next to a held one, one of the highest, or the mark.
 pub fn page(rng: &mut Rng, record: &Record) -> u32 {
-    let held = (record.held as usize).min(256);
+    let held = ones(&record.map) as usize;
     if held > 0 && rng.one_in(3) {
         return record.entries[rng.below(held)][0];
     }
@@ -135,11 +139,11 @@ pub fn page(rng: &mut Rng, record: &Record) -> u32 {
 }
 
 /// The number of kinds of damage below.
-pub const DAMAGES: usize = 20;
+pub const DAMAGES: usize = 22;
 
 /// Does one kind of damage. Where the record is too small for it, some word is changed instead.
 pub fn damage(rng: &mut Rng, record: &mut Record, kind: usize) {
-    let held = record.held as usize;
+    let held = ones(&record.map) as usize;
     let needed = if kind == 16 { 2 } else { 1 };
     if (8..=17).contains(&kind) && held < needed {
         return damage(rng, record, kind % 4);
@@ -150,11 +154,11 @@ pub fn damage(rng: &mut Rng, record: &mut Record, kind: usize) {
         0 => record.rule = rng.pick(&[0, 3, 5, 6, 257, 65_540, MARK]),
         1 => record.frames = rng.pick(&[0, 257, 512, 65_537, 1 << 31, MARK]),
         2 => record.clock = rng.pick(&[8_001, 8_002, 65_536, 1 << 31, MARK]),
-        3 => record.held = rng.pick(&[257, 258, 1 << 31, MARK]),
-        4 => record.held = record.frames + 1,
-        5 => record.held += 1,
-        6 => record.held = record.held.saturating_sub(1),
-        7 => record.frames = record.held.saturating_sub(1),
+        3 => record.map = lowest(256),
+        4 => record.map = lowest((record.frames + 1).min(256)),
+        5 => record.map = lowest((held as u32 + 1).min(256)),
+        6 => record.map = lowest((held as u32).saturating_sub(1)),
+        7 => record.frames = (held as u32).saturating_sub(1),
         8 => record.clock = latest(record),
         9 => record.clock = rng.below(held) as u32,
         10 => record.entries[frame][0] = MARK,
@@ -166,12 +170,14 @@ pub fn damage(rng: &mut Rng, record: &mut Record, kind: usize) {
         16 => share_a_moment(rng, record, frame, other),
         17 => record.entries[frame] = [MARK; 4],
         18 => dirt_past_held(rng, record),
+        19 => record.map = flipped(&record.map, rng.below(256)),
+        20 => record.map = flipped(&record.map, frame),
         _ => any_word(rng, record),
     }
 }
 
 fn latest(record: &Record) -> u32 {
-    let held = &record.entries[..record.held as usize];
+    let held = &record.entries[..ones(&record.map) as usize];
     held.iter().map(|entry| entry[2]).max().unwrap_or(0)
 }
 
@@ -211,7 +217,7 @@ fn share_a_moment(rng: &mut Rng, record: &mut Record, frame: usize, other: usize
 }
 
 fn dirt_past_held(rng: &mut Rng, record: &mut Record) {
-    let held = record.held as usize;
+    let held = ones(&record.map) as usize;
     if held == 256 {
         return any_word(rng, record);
     }
@@ -226,7 +232,7 @@ fn any_word(rng: &mut Rng, record: &mut Record) {
         0 => record.rule = value,
         1 => record.frames = value,
         2 => record.clock = value,
-        3 => record.held = value,
+        3 => record.map[rng.below(4)] = u64::from(value) << rng.pick(&[0, 32]),
         _ => record.entries[rng.below(12)][rng.below(4)] = value,
     }
 }

@@ -4,8 +4,9 @@
 use crate::cases::{self, Rng};
 use crate::judge::{self, RECORD_WORDS};
 use crate::lent::{answer, words, Tally};
+use crate::map_cases::{self, Map, HELD};
 use crate::record_cases::{self, words_of, DAMAGES};
-use second::{Record, MARK};
+use second::{lowest, Record, MARK};
 
 fn compare_fresh(tally: &mut Tally, rule: u32, n: u32) {
     compare_fresh_words(tally, rule, n, answer(RECORD_WORDS).part());
@@ -99,7 +100,7 @@ fn compare_own_words(_tally: &mut Tally, _given: &[u32], _page: u32) {}
 fn tell(given: &[u32]) -> String {
     format!(
         "{:?} of {} words",
-        &given[..given.len().min(28)],
+        &given[..given.len().min(35)],
         given.len()
     )
 }
@@ -202,7 +203,7 @@ pub fn shared_moments(tally: &mut Tally) {
                         record.rule = rule;
                         record.frames = 2;
                         record.clock = 11;
-                        record.held = 2;
+                        record.map = lowest(2);
                         let mut changed = second;
                         changed[here] = moment;
                         record.entries[0] = [50, first[0], first[1], first[2]];
@@ -225,7 +226,7 @@ pub fn last_requests(tally: &mut Tally) {
                 record.rule = rule;
                 record.frames = 2;
                 record.clock = clock;
-                record.held = held;
+                record.map = lowest(held);
                 for frame in 0..held {
                     record.entries[frame as usize] = [50 + frame, frame, frame, MARK];
                 }
@@ -238,8 +239,61 @@ pub fn last_requests(tally: &mut Tally) {
     }
 }
 
-/// How many words are lent for a record: one too few and fewer, just enough, and more.
-const LENGTHS: [usize; 12] = [0, 1, 3, 4, 5, 100, 1_023, 1_024, 1_027, 1_028, 1_029, 1_100];
+/// Maps of every number of held frames: a hit, the load of a page or a drop, and the mark.
+pub fn maps(tally: &mut Tally) {
+    for held in 0..=256 {
+        let rule = [1, 2, 4][held as usize % 3];
+        for frames in [held.max(1), 256] {
+            let record = map_cases::cache(rule, held, frames);
+            compare_sound(tally, &record);
+            for page in [700, 5, MARK] {
+                let next = compare_feed(tally, &record, page);
+                compare_sound(tally, &next);
+            }
+        }
+    }
+}
+
+/// Every single bit of a map flipped and each other kind of damage, with frames enough and too few.
+pub fn damaged_maps(tally: &mut Tally) {
+    for (number, held) in HELD.into_iter().enumerate() {
+        for frames in [3, held.max(1), 256] {
+            let record = map_cases::cache([1, 2, 4][number % 3], held, frames);
+            for map in map_cases::damaged(&record.map, frames) {
+                compare_map(tally, &record, map);
+            }
+        }
+    }
+}
+
+/// Any maps at all, some with the last request served.
+pub fn random_maps(tally: &mut Tally) {
+    let mut rng = Rng::new(207);
+    for case in 0..1_500 {
+        let map = map_cases::random(&mut rng);
+        let held = second::ones(&map);
+        let frames = rng.pick(&[3, held.max(1), 256]);
+        let mut record = map_cases::cache([1, 2, 4][case % 3], held.min(frames), frames);
+        if rng.one_in(8) {
+            record.clock = 8_000;
+        }
+        compare_map(tally, &record, map);
+    }
+}
+
+/// The map in each record that goes with it; fed are a new page and a held one, or the mark.
+fn compare_map(tally: &mut Tally, record: &Record, map: Map) {
+    let [kept, counted, spread] = map_cases::with_map(record, map);
+    for (record, page) in [(kept, 5), (counted, 5), (counted, 700), (spread, MARK)] {
+        compare_sound(tally, &record);
+        compare_feed(tally, &record, page);
+    }
+}
+
+/// How many words are lent for a record: few, as before the map, one too few, enough, and more.
+const LENGTHS: [usize; 13] = [
+    0, 1, 3, 4, 10, 11, 100, 1_024, 1_028, 1_034, 1_035, 1_036, 1_100,
+];
 
 /// So many words of a record; past its end some others.
 fn cut_to(rng: &mut Rng, record: &Record, length: usize) -> Vec<u32> {
@@ -248,6 +302,14 @@ fn cut_to(rng: &mut Rng, record: &Record, length: usize) -> Vec<u32> {
         given.push(rng.word());
     }
     given.truncate(length);
+    given
+}
+
+/// The words of a record before the map: the number of held frames stood in its place.
+fn with_a_number(record: &Record) -> Vec<u32> {
+    let held = second::ones(&record.map);
+    let mut given = vec![record.rule, record.frames, record.clock, held];
+    given.extend(record.entries.iter().flatten());
     given
 }
 
@@ -261,8 +323,9 @@ pub fn short_records(tally: &mut Tally) {
             2 => record_cases::from_run(&mut rng),
             _ => record_cases::drawn(&mut rng),
         };
-        for length in LENGTHS {
-            let given = cut_to(&mut rng, &record, length);
+        let mut list = vec![with_a_number(&record)];
+        list.extend(LENGTHS.map(|length| cut_to(&mut rng, &record, length)));
+        for given in list {
             compare_sound_words(tally, &given);
             for page in [record_cases::page(&mut rng, &record), MARK] {
                 compare_feed_words(tally, &given, page, answer(RECORD_WORDS).part());
