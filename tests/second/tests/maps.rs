@@ -53,7 +53,8 @@ fn empty_maps() {
     assert_eq!(fresh(LRU_2, 257).2.map, [0; 4]);
 }
 
-/// One bit too many or too few is never sound, whichever it is.
+/// One bit too many or too few is never sound; with as many entries as there are ones it is
+/// only where the lowest bits are left.
 #[test]
 fn every_single_flip() {
     for held in [0, 1, 3, 63, 64, 65, 128, 200, 255, 256] {
@@ -64,6 +65,8 @@ fn every_single_flip() {
                 let mut map = record.map;
                 map[bit / 64] ^= 1 << bit % 64;
                 assert!(!sound_with(&record, map), "{held} held, bit {bit}");
+                let fitting = cache(ones(&map), 256);
+                assert_eq!(sound_with(&fitting, map), map == fitting.map);
             }
         }
     }
@@ -76,8 +79,10 @@ fn a_stray_bit() {
         for map in [[15, 0, 0, 0], [23, 0, 0, 0], [7, 1, 0, 0], [7, 0, 1, 0]] {
             assert!(!sound_with(&record, map));
         }
-        // Frame 255, with 3 frames too.
+        // Frame 255, with 3 frames too, and with no more ones than entries.
         assert!(!sound_with(&record, [7, 0, 0, 1 << 63]));
+        assert!(!sound_with(&record, [3, 0, 0, 1 << 63]));
+        assert!(!sound_with(&cache(4, frames), [7, 0, 0, 1 << 63]));
     }
 }
 
