@@ -22,10 +22,9 @@ pub fn cache(rule: u32, held: u32, frames: u32) -> Record {
 
 fn entry(frame: u32) -> [u32; 4] {
     let loaded = 2 * frame;
-    if frame % 2 == 0 {
-        [700 + frame, loaded, loaded, MARK]
-    } else {
-        [700 + frame, loaded, loaded + 1, loaded]
+    match frame % 2 {
+        0 => [700 + frame, loaded, loaded, MARK],
+        _ => [700 + frame, loaded, loaded + 1, loaded],
     }
 }
 
