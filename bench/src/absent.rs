@@ -15,7 +15,11 @@ pub fn check(_: u32, _: &[u32], _: &[u32]) -> u32 {
     unreachable!()
 }
 
-pub fn feed_all(_: u32, _: u32, _: &[u32], _: &mut [u32]) -> u32 {
+pub fn feed_all(_: u32, _: u32, _: &[u32], _: &mut [u32], _: &mut [u32]) -> u32 {
+    unreachable!()
+}
+
+pub fn sound(_: &[u32]) -> bool {
     unreachable!()
 }
 

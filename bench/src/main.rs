@@ -8,6 +8,8 @@ mod inputs;
 mod judge;
 #[cfg_attr(feature = "baseline-only", path = "absent.rs")]
 mod ours;
+#[cfg_attr(not(feature = "records"), allow(dead_code))]
+mod record;
 // What is not measured stays, with its tests.
 #[cfg_attr(not(all(feature = "records", feature = "report")), allow(dead_code))]
 mod tuned;
@@ -17,10 +19,11 @@ use std::hint::black_box;
 use std::process::ExitCode;
 use std::time::{Duration, Instant};
 
-/// Where a piece of work leaves its words or its text.
+/// Where a piece of work leaves its words, its record or its text.
 #[derive(PartialEq)]
 struct Room {
     words: Vec<u32>,
+    record: Vec<u32>,
     text: String,
 }
 
@@ -73,19 +76,49 @@ fn works(trace: &[u32]) -> Vec<(String, Work<'_>, Work<'_>)> {
     list.push(check_work(trace));
     #[cfg(feature = "records")]
     for (rule, name) in NAMES {
-        if rule == tuned::MIN {
-            // MIN looks ahead, so it can't be fed.
-            continue;
+        // MIN looks ahead, so it can't be fed.
+        if rule != tuned::MIN {
+            list.push(feed_work(rule, name, trace));
         }
-        list.push((
-            format!("feed {name}"),
-            Box::new(move |room| ours::feed_all(rule, FRAMES, trace, &mut room.words)),
-            Box::new(move |room| tuned::feed_all(rule, FRAMES, trace, &mut room.words)),
-        ));
     }
+    #[cfg(feature = "records")]
+    list.push(sound_work(trace));
     #[cfg(feature = "report")]
     list.push(report_work(trace));
     list
+}
+
+/// Both leave the last record, map and all.
+#[cfg(feature = "records")]
+fn feed_work<'a>(rule: u32, name: &str, trace: &'a [u32]) -> (String, Work<'a>, Work<'a>) {
+    (
+        format!("feed {name}"),
+        Box::new(move |room| {
+            ours::feed_all(rule, FRAMES, trace, &mut room.words, &mut room.record)
+        }),
+        Box::new(move |room| {
+            tuned::feed_all(rule, FRAMES, trace, &mut room.words, &mut room.record)
+        }),
+    )
+}
+
+/// The record that the trace leaves, all its frames held, judged once for each request.
+#[cfg(feature = "records")]
+fn sound_work(trace: &[u32]) -> (String, Work<'_>, Work<'_>) {
+    let mut room = empty_room();
+    tuned::feed_all(tuned::LRU, FRAMES, trace, &mut room.words, &mut room.record);
+    let same = room.record.clone();
+    (
+        "sound".to_string(),
+        Box::new(move |_| times_sound(&room.record, ours::sound)),
+        Box::new(move |_| times_sound(&same, record::sound)),
+    )
+}
+
+#[cfg(feature = "records")]
+fn times_sound(record: &[u32], sound: fn(&[u32]) -> bool) -> u32 {
+    let judged = (0..REQUESTS).filter(|_| sound(black_box(record)));
+    judged.count() as u32
 }
 
 fn check_work(trace: &[u32]) -> (String, Work<'_>, Work<'_>) {
@@ -121,6 +154,7 @@ fn report_work(trace: &[u32]) -> (String, Work<'_>, Work<'_>) {
 fn empty_room() -> Room {
     Room {
         words: vec![0; REQUESTS],
+        record: vec![0; record::RECORD_WORDS],
         text: String::new(),
     }
 }

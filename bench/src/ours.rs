@@ -29,20 +29,28 @@ fn faults(answer: [u32; 3]) -> u32 {
 }
 
 #[cfg(feature = "records")]
-pub fn feed_all(rule: u32, n: u32, trace: &[u32], words: &mut [u32]) -> u32 {
-    let mut record = vec![0; judge::RECORD_WORDS];
+pub fn feed_all(rule: u32, n: u32, trace: &[u32], words: &mut [u32], record: &mut [u32]) -> u32 {
+    let mut now = vec![0; judge::RECORD_WORDS];
     let mut next = vec![0; judge::RECORD_WORDS];
-    judge::fresh(rule, n, &mut record, &mut [0; 2]);
+    judge::fresh(rule, n, &mut now, &mut [0; 2]);
     let mut faults = 0;
     for (moment, &page) in trace.iter().enumerate() {
         let mut answer = [0; 4];
-        judge::feed(&record, page, &mut next, &mut answer);
+        judge::feed(&now, page, &mut next, &mut answer);
         assert_eq!(answer[0], 0, "refused: {answer:?}");
         faults += u32::from(answer[2] != 0);
         words[moment] = answer[3];
-        std::mem::swap(&mut record, &mut next);
+        std::mem::swap(&mut now, &mut next);
     }
+    record.copy_from_slice(&now);
     faults
+}
+
+#[cfg(feature = "records")]
+pub fn sound(record: &[u32]) -> bool {
+    let mut answer = [0];
+    judge::sound(record, &mut answer);
+    answer[0] == 1
 }
 
 #[cfg(feature = "report")]

@@ -1,6 +1,7 @@
 //! The same services written for speed, as a mill would write them without any proof.
 //! It measures what the proved program costs; it takes good input and judges only plans.
 
+use crate::record::Kept;
 use std::cmp::Reverse;
 use std::collections::{BinaryHeap, HashMap, VecDeque};
 use std::fmt::Write;
@@ -57,7 +58,7 @@ impl Names {
 
 /// What a request did; a dropped page is told by its small number.
 #[derive(Clone, Copy, Debug, PartialEq, Eq)]
-enum Did {
+pub enum Did {
     Hit,
     Loaded,
     Dropped(u32),
@@ -373,21 +374,25 @@ pub fn check(m: u32, trace: &[u32], words: &[u32]) -> Result<u32, u32> {
     Ok(faults)
 }
 
-/// Feeds the trace one page at a time, naming pages as they come. Answers the faults.
-pub fn feed_all(rule: u32, n: u32, trace: &[u32], words: &mut [u32]) -> u32 {
+/// Feeds the trace one page at a time, naming pages as they come, and keeps the record in words.
+/// Answers the faults.
+pub fn feed_all(rule: u32, n: u32, trace: &[u32], words: &mut [u32], record: &mut [u32]) -> u32 {
+    let kept = Kept::fresh(rule, n, trace.len(), record);
     match rule {
-        LRU => feed_cache::<Lru>(n, trace, words),
-        FIFO => feed_cache::<Fifo>(n, trace, words),
-        _ => feed_cache::<LruTwo>(n, trace, words),
+        LRU => feed_cache::<Lru>(n, trace, words, kept),
+        FIFO => feed_cache::<Fifo>(n, trace, words, kept),
+        _ => feed_cache::<LruTwo>(n, trace, words, kept),
     }
 }
 
-fn feed_cache<C: Cache>(n: u32, trace: &[u32], words: &mut [u32]) -> u32 {
+fn feed_cache<C: Cache>(n: u32, trace: &[u32], words: &mut [u32], mut kept: Kept) -> u32 {
     let mut names = Names::default();
     let mut cache = C::new(n as usize, trace.len());
     let mut faults = 0;
     for (moment, &page) in trace.iter().enumerate() {
-        let did = cache.feed(names.number(page));
+        let number = names.number(page);
+        let did = cache.feed(number);
+        kept.serve(number, page, did);
         faults += u32::from(did != Did::Hit);
         words[moment] = match did {
             Did::Dropped(page) => names.pages[page as usize],
@@ -437,12 +442,13 @@ pub fn report(bytes: &[u8]) -> String {
 }
 
 #[cfg(test)]
-mod tests {
+pub mod tests {
     use super::*;
     use crate::inputs::{self, Lot};
+    use crate::record::RECORD_WORDS;
 
     /// Traces with few frames and many, long and short, each against the second program.
-    fn each_trace(times: usize, mut test: impl FnMut(&mut Lot, u32, &[u32])) {
+    pub fn each_trace(times: usize, mut test: impl FnMut(&mut Lot, u32, &[u32])) {
         let mut lot = Lot::new(5);
         for round in 0..times {
             let n = 1 + lot.below(if round % 5 == 0 { 60 } else { 8 });
@@ -483,8 +489,9 @@ mod tests {
                 let mut ours = vec![0; trace.len()];
                 let reply = second::write_plan(rule, n, trace, &mut ours);
                 let mut tuned = vec![0; trace.len()];
-                assert_eq!(feed_all(rule, n, trace, &mut tuned), reply.faults);
-                assert_eq!(tuned, ours);
+                let mut record = [0; RECORD_WORDS];
+                let faults = feed_all(rule, n, trace, &mut tuned, &mut record);
+                assert_eq!((faults, tuned), (reply.faults, ours));
             }
         });
     }
