@@ -1,11 +1,11 @@
 // The map of occupied frames: four words of 64 bits, one bit for each frame, low bits first.
-// How many frames are occupied, the next free one, whether they are exactly the lowest, and the map with one more.
+// How many frames are occupied, the next free one, and whether exactly the lowest are.
 ghost use mathlib.Core.Path.{_≡_};
-ghost use Rattle.occupancy.specs.Map.{onesOf, lowestZero, lowestOnly, withFrame};
+ghost use Rattle.occupancy.specs.Map.{onesOf, lowestZero, lowestOnly};
 use paging::Frame;
 
 // How many bits a word has, and how many words a map.
-const BITS: u32 = 64;
+pub const BITS: u32 = 64;
 
 pub const WORDS: usize = (calls::FRAMES / BITS) as usize;
 
@@ -39,17 +39,4 @@ pub fn lowest_only(map: [u64; WORDS]) -> bool
     ensures { λ r. ⌜ r ≡ lowestOnly map ⌝ }
 {
     next_free(map).0 == held(map)
-}
-
-// The map with a frame's bit set; a frame past the last has none.
-pub fn with_frame(map: [u64; WORDS], frame: Frame) -> [u64; WORDS]
-    ensures { λ r. ⌜ r ≡ withFrame map (frame .0) ⌝ }
-{
-    let at = (frame.0 / BITS) as usize;
-    let bit: u64 = 1 << (frame.0 % BITS);
-    let mut after = map;
-    if at < WORDS {
-        after[at] = map[at] | bit;
-    }
-    after
 }

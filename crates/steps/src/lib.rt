@@ -4,6 +4,7 @@ ghost use mathlib.Core.Path.{_≡_};
 ghost use Prim.Native.Nat.{_<_};
 ghost use lib.ListN.{set};
 ghost use Rattle.paging.specs.Calls.{frameLimit};
+ghost use Rattle.occupancy.specs.Map.{withFrame};
 ghost use Rattle.steps.specs.Devices.Step.{hitStep, fullStep, loadStep, stepped};
 use entries::Found;
 use paging::Entry;
@@ -31,6 +32,19 @@ fn put(
     let mut after = entries;
     if at < calls::FRAMES as usize {
         after[at] = entry;
+    }
+    after
+}
+
+// The map with a frame's bit set; a frame past the last has none.
+fn with_frame(map: [u64; occupancy::WORDS], frame: Frame) -> [u64; occupancy::WORDS]
+    ensures { λ r. ⌜ r ≡ withFrame map (frame .0) ⌝ }
+{
+    let at = (frame.0 / occupancy::BITS) as usize;
+    let bit: u64 = 1 << (frame.0 % occupancy::BITS);
+    let mut after = map;
+    if at < occupancy::WORDS {
+        after[at] = map[at] | bit;
     }
     after
 }
@@ -91,7 +105,7 @@ fn load(
         let free = occupancy::next_free(map);
         return After {
             outcome: Outcome::Loaded,
-            map: occupancy::with_frame(map, free),
+            map: with_frame(map, free),
             entries: put(entries, free, entry),
         };
     }

@@ -1,4 +1,4 @@
--- `occupancy::with_frame` meets its contract: a bit below the word's width is shifted into its place.
+-- `steps::with_frame` meets its contract: a bit below the word's width is shifted into its place.
 -- Assumes nothing.
 use mathlib.Core.Path.{_≡_, sym, ap, _∙_}
 use Prim.Native.Nat.{ℕ, _*_, _/_, _%_, _^_, _≤_, _<_}
@@ -8,10 +8,10 @@ use lib.Pow.{shl-exact}
 use lib.ListN.{length, getD, set}
 use lib.Seq.{set-out}
 use borrow.Author.Needs.{needs}
 use Rattle.occupancy.specs.Map.{wordBits, withFrame, Words}
 use Rattle.occupancy.proofs.Made.{made}
-use Rattle.occupancy.proofs.with_frame.Statement.{statement}
-use Rattle.occupancy.proofs.with_frame.Tie as tie
+use Rattle.steps.proofs.with_frame.Statement.{statement}
+use Rattle.steps.proofs.with_frame.Tie as tie
 
 shifted : (b : ℕ) → b < wordBits → (1 * 2 ^ b) % 2 ^ wordBits ≡ 2 ^ b
 shifted b h = shl-exact {a = 1} 1 b wordBits (omega arith) (omega arith) ∙ (let e : 1 * 2 ^ b ≡ 2 ^ b = omega arith in e)
