@@ -1,9 +1,9 @@
-// A cache record in words, for callers outside: rule, frames, clock, held, then page, loaded, last, earlier of each entry.
+// A cache record in words, for callers outside: rule, frames, clock, then the map, each of its words as two, low half first, then page, loaded, last, earlier of each entry.
 // Fewer words than that hold no record: they are read as the blank one, and nothing is put into them.
 ghost use mathlib.Core.Path.{_≡_};
-ghost use Prim.Native.Nat.{_+_, _≤_};
+ghost use Prim.Native.Nat.{_+_, _≤_, _<_};
 ghost use lib.ListN.{length};
-ghost use Rattle.records.specs.Records.{recordLength, entryFrom, recordOf, putFour, putEntries, recordInto};
+ghost use Rattle.records.specs.Records.{recordLength, wordLimit, wordFrom, mapFrom, entryFrom, recordOf, putHead, putWord, putMap, putFour, putEntries, recordInto};
 use cache::Cache;
 use paging::Entry;
 use paging::Moment;
@@ -11,8 +11,41 @@ use paging::Page;
 
 const ENTRIES: usize = Cache::FRAMES as usize;
 
-// How many words a record takes: 1,028.
-pub const WORDS: usize = 4 + 4 * ENTRIES;
+// Where the map begins, and where the entries.
+const MAP: usize = 3;
+
+const FIRST: usize = MAP + 2 * occupancy::WORDS;
+
+// How many words a record takes: 1,035.
+pub const WORDS: usize = FIRST + 4 * ENTRIES;
+
+// 2 to the 32: what the high half of a word of the map counts.
+const HIGH: u64 = 4294967296;
+
+fn wide(half: u32) -> u64
+    ensures { λ r. ⌜ (r ≡ half) × (r < wordLimit) ⌝ }
+{
+    half as u64
+}
+
+// A word of the map, low half first.
+fn word_from(words: &[u32], at: usize) -> u64
+    requires { ⌜ at + 2 ≤ length (now words) ⌝ }
+    ensures { λ r. ⌜ r ≡ wordFrom (now (words .entry)) at ⌝ }
+{
+    wide(words[at]) + HIGH * wide(words[at + 1])
+}
+
+fn map_from(words: &[u32]) -> [u64; occupancy::WORDS]
+    requires { ⌜ recordLength ≤ length (now words) ⌝ }
+    ensures { λ r. ⌜ r ≡ mapFrom (now (words .entry)) ⌝ }
+{
+    let first = word_from(words, MAP);
+    let second = word_from(words, MAP + 2);
+    let third = word_from(words, MAP + 4);
+    let fourth = word_from(words, MAP + 6);
+    [first, second, third, fourth]
+}
 
 fn entry_from(words: &[u32], at: usize) -> Entry
     requires { ⌜ at + 4 ≤ length (now words) ⌝ }
@@ -32,21 +65,50 @@ pub fn record_of(words: &[u32]) -> Cache
     if words.len() < WORDS {
         return Cache::blank();
     }
-    let first = entry_from(words, 4);
+    let first = entry_from(words, FIRST);
     // The first everywhere, then each in its place.
     let mut entries = [first; ENTRIES];
     let mut i = 0;
     while i < ENTRIES {
-        entries[i] = entry_from(words, 4 + 4 * i);
+        entries[i] = entry_from(words, FIRST + 4 * i);
         i += 1;
     }
+    let map = map_from(words);
     Cache {
         rule: words[0],
         frames: words[1],
         clock: words[2],
-        held: words[3],
+        map: map,
         entries: entries,
     }
+}
+
+fn put_head(words: &mut [u32], rule: u32, frames: u32, clock: u32)
+    requires { ⌜ 3 ≤ length (now words) ⌝ }
+    ensures { λ r. ⌜ now (words .exit) ≡ putHead rule frames clock (now (words .entry)) ⌝ }
+{
+    words[0] = rule;
+    words[1] = frames;
+    words[2] = clock;
+}
+
+// A word of the map, low half first.
+fn put_word(words: &mut [u32], at: usize, word: u64)
+    requires { ⌜ at + 2 ≤ length (now words) ⌝ }
+    ensures { λ r. ⌜ now (words .exit) ≡ putWord at word (now (words .entry)) ⌝ }
+{
+    words[at] = (word % HIGH) as u32;
+    words[at + 1] = (word / HIGH) as u32;
+}
+
+fn put_map(map: [u64; occupancy::WORDS], words: &mut [u32])
+    requires { ⌜ recordLength ≤ length (now words) ⌝ }
+    ensures { λ r. ⌜ now (words .exit) ≡ putMap map (now (words .entry)) ⌝ }
+{
+    put_word(words, MAP, map[0]);
+    put_word(words, MAP + 2, map[1]);
+    put_word(words, MAP + 4, map[2]);
+    put_word(words, MAP + 6, map[3]);
 }
 
 fn put_four(words: &mut [u32], at: usize, a: u32, b: u32, c: u32, d: u32)
@@ -61,14 +123,14 @@ fn put_four(words: &mut [u32], at: usize, a: u32, b: u32, c: u32, d: u32)
 
 fn put_entries(cache: Cache, words: &mut [u32])
     requires { ⌜ recordLength ≤ length (now words) ⌝ }
-    ensures { λ r. ⌜ now (words .exit) ≡ putEntries 4 (cache .entries) (now (words .entry)) ⌝ }
+    ensures { λ r. ⌜ now (words .exit) ≡ putEntries (cache .entries) (now (words .entry)) ⌝ }
 {
     let mut i = 0;
     while i < ENTRIES {
         let e = cache.entries[i];
         put_four(
             words,
-            4 + 4 * i,
+            FIRST + 4 * i,
             e.page.0,
             e.loaded.0,
             e.last.0,
@@ -84,6 +146,8 @@ pub fn record_into(cache: Cache, words: &mut [u32])
     if words.len() < WORDS {
         return;
     }
-    put_four(words, 0, cache.rule, cache.frames, cache.clock, cache.held);
+    put_head(words, cache.rule, cache.frames, cache.clock);
+    let map = cache.map;
+    put_map(map, words);
     put_entries(cache, words);
 }

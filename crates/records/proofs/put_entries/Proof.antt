@@ -6,15 +6,15 @@ use Prim.Native.Nat.{_+_, _*_, _-_, _≤_, _<_}
 use native.Mathlib.Omega.{arith}
 use lib.ListN.{length, drop}
 use Rattle.paging.specs.Calls.{frameLimit}
-use Rattle.cache.proofs.Long.{long}
-use Rattle.records.specs.Records.{putEntries}
+use Rattle.cache.proofs.Long.{formed}
+use Rattle.records.specs.Records.{entriesPlace, putEntries}
 use Rattle.records.proofs.Back.{four-length}
-use Rattle.records.proofs.Loops.{put-on, put-all}
+use Rattle.records.proofs.Loops.{putFrom, put-on, put-all}
 use Rattle.records.proofs.put_entries.Statement.{statement}
 use Rattle.records.proofs.put_entries.Tie as tie
 
 abbrev Inv-loop : tie.InvT-loop
-Inv-loop words₀ cache i₀ words i = (i ≤ frameLimit) × (length words ≡ length words₀) × (putEntries (4 + 4 * i) (drop i (cache .entries)) words ≡ putEntries 4 (cache .entries) words₀)
+Inv-loop words₀ cache i₀ words i = (i ≤ frameLimit) × (length words ≡ length words₀) × (putFrom (entriesPlace + 4 * i) (drop i (cache .entries)) words ≡ putEntries (cache .entries) words₀)
 
 abbrev μ-loop : tie.MeasureT-loop
 μ-loop words₀ cache i₀ words i = frameLimit - i
@@ -48,10 +48,10 @@ loop-again c =
     let p = c .before .before in
     let l = p .before .before .before .before in
     let s = l .before .before in
-    let h : l .loop .i < length (s .args .t1 .entries) = omega (arith, long (s .args .t1) _ (s .good .0)) in (
+    let h : l .loop .i < length (s .args .t1 .entries) = omega (arith, formed (s .args .t1) _ (s .good .0) .all-entries) in (
       omega arith,
       rw (p .put-four .ensures) (four-length (l .loop .words) _ _ _ _ _ ∙ l .loop .inv .1),
-      rw (p .put-four .ensures) (put-on (s .args .t1 .entries) _ (l .loop .i) (l .loop .words) _ h (l .loop .inv .2)),
+      rw (p .put-four .ensures) (put-on (s .args .t1 .entries) _ entriesPlace (l .loop .i) (l .loop .words) _ h (l .loop .inv .2)),
     )
 
 same-length : tie.Need-same-length Inv-loop μ-loop
@@ -61,8 +61,8 @@ returns : tie.Need-returns Inv-loop μ-loop
 returns c =
     let l = c .before in
     let s = l .before .before in
-    let h : length (s .args .t1 .entries) ≤ l .loop .i = omega (arith, long (s .args .t1) _ (s .good .0)) in
-    put-all (s .args .t1 .entries) (l .loop .i) (4 + 4 * l .loop .i) (l .loop .words) _ h (l .loop .inv .2)
+    let h : length (s .args .t1 .entries) ≤ l .loop .i = omega (arith, formed (s .args .t1) _ (s .good .0) .all-entries) in
+    put-all (s .args .t1 .entries) (l .loop .i) (entriesPlace + 4 * l .loop .i) (l .loop .words) _ h (l .loop .inv .2)
 
 pub put-entries-spec : {M : Type 1} → statement M
 put-entries-spec =

@@ -13,8 +13,11 @@ returns c =
     let s = c .before .before in
     sym (short-kept (s .args .words .now) (omega arith) _)
 
-put-four-requires : tie.Need-put-four-requires
-put-four-requires c κs = search needs
+put-head-requires : tie.Need-put-head-requires
+put-head-requires c κs = search needs
+
+put-map-requires : tie.Need-put-map-requires
+put-map-requires c κs = search needs
 
 put-entries-requires : tie.Need-put-entries-requires
 put-entries-requires c κs = search needs
@@ -25,9 +28,11 @@ same-length c = search needs
 returns-2 : tie.Need-returns-2
 unfolding recordOver
 returns-2 c =
-    let f = c .before .before .before .before .before .before in
-    let s = f .before .before .before .before in
-    rw (c .before .before .put-entries .ensures, f .put-four .ensures) (sym (long-into _ (s .args .words .now) (omega arith)))
+    let e = c .before .before in
+    let m = e .before .before .before .before in
+    let h = m .before .before .before .before .before in
+    let s = h .before .before .before .before in
+    rw (e .put-entries .ensures, m .put-map .ensures, h .put-head .ensures) (sym (long-into _ (s .args .words .now) (omega arith)))
 
 pub record-into-spec : {M : Type 1} → statement M
-record-into-spec = tie.close (tie.spec returns put-four-requires put-entries-requires same-length returns-2)
+record-into-spec = tie.close (tie.spec returns put-head-requires put-map-requires put-entries-requires same-length returns-2)

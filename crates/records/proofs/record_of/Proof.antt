@@ -8,14 +8,14 @@ use native.Mathlib.Omega.{arith}
 use lib.ListN.{length, take, length-set}
 use borrow.Author.Tests.{lt-ltb, le-ltb}
 use Rattle.paging.specs.Calls.{frameLimit}
-use Rattle.records.specs.Records.{recordLength, entriesFrom, recordIn, recordOf}
-use Rattle.records.proofs.Loops.{read-on, read-all}
+use Rattle.records.specs.Records.{entriesPlace, recordLength, entriesFrom, recordIn, recordOf}
+use Rattle.records.proofs.Loops.{readFrom, read-on, read-all}
 use Rattle.records.proofs.record_of.Statement.{statement}
 use Rattle.records.proofs.record_of.Tie as tie
 
 abbrev Inv-loop : tie.InvT-loop
 Inv-loop words entries₀ i₀ entries i =
-    (i ≤ frameLimit) × (length entries ≡ frameLimit) × (take i entries ++ entriesFrom words (4 + 4 * i) (frameLimit - i) ≡ entriesFrom words 4 frameLimit)
+    (i ≤ frameLimit) × (length entries ≡ frameLimit) × (take i entries ++ readFrom words (entriesPlace + 4 * i) (frameLimit - i) ≡ entriesFrom words)
 
 abbrev μ-loop : tie.MeasureT-loop
 μ-loop words entries₀ i₀ entries i = frameLimit - i
@@ -64,28 +64,29 @@ loop-again c =
     let k : l .loop .i < length (l .loop .entries) = omega (arith, l .loop .inv .1) in (
       omega arith,
       length-set (l .loop .entries) (l .loop .i) (c .entry-from2 .result) ∙ l .loop .inv .1,
-      rw (c .entry-from2 .ensures) (read-on (s .args .words .now) (l .loop .entries) frameLimit (l .loop .i) _ h k (l .loop .inv .2)),
+      rw (c .entry-from2 .ensures) (read-on (s .args .words .now) (l .loop .entries) entriesPlace frameLimit (l .loop .i) _ h k (l .loop .inv .2)),
     )
 
-shared-slice-read-t15 : tie.Need-shared-slice-read-t15 Inv-loop μ-loop
-shared-slice-read-t15 c = search needs
+map-from-requires : tie.Need-map-from-requires Inv-loop μ-loop
+map-from-requires c κs = search needs
 
-shared-slice-read-t17 : tie.Need-shared-slice-read-t17 Inv-loop μ-loop
-shared-slice-read-t17 c = search needs
+shared-slice-read-t16 : tie.Need-shared-slice-read-t16 Inv-loop μ-loop
+shared-slice-read-t16 c = search needs
 
-shared-slice-read-t19 : tie.Need-shared-slice-read-t19 Inv-loop μ-loop
-shared-slice-read-t19 c = search needs
+shared-slice-read-t18 : tie.Need-shared-slice-read-t18 Inv-loop μ-loop
+shared-slice-read-t18 c = search needs
 
-shared-slice-read-t21 : tie.Need-shared-slice-read-t21 Inv-loop μ-loop
-shared-slice-read-t21 c = search needs
+shared-slice-read-t20 : tie.Need-shared-slice-read-t20 Inv-loop μ-loop
+shared-slice-read-t20 c = search needs
 
 returns-2 : tie.Need-returns-2 Inv-loop μ-loop
 unfolding recordOf recordIn
 returns-2 c =
-    let l = c .before .before .before .before .before in
+    let m = c .before .before .before in
+    let l = m .before .before in
     let s = l .before .before .before .before in
     let h : frameLimit ≤ l .loop .i = omega arith in
-    rw (le-ltb (length (s .args .words .now)) recordLength (omega arith), read-all (s .args .words .now) (l .loop .entries) frameLimit (l .loop .i) _ h (l .loop .inv .0) (l .loop .inv .1) (l .loop .inv .2)) refl
+    rw (le-ltb (length (s .args .words .now)) recordLength (omega arith), m .map-from .ensures, read-all (s .args .words .now) (l .loop .entries) entriesPlace frameLimit (l .loop .i) _ h (l .loop .inv .0) (l .loop .inv .1) (l .loop .inv .2)) refl
 
 pub record-of-spec : {M : Type 1} → statement M
 record-of-spec =
@@ -105,8 +106,8 @@ record-of-spec =
     add-i
     loop-less
     loop-again
-    shared-slice-read-t15
-    shared-slice-read-t17
-    shared-slice-read-t19
-    shared-slice-read-t21
+    map-from-requires
+    shared-slice-read-t16
+    shared-slice-read-t18
+    shared-slice-read-t20
     returns-2)
