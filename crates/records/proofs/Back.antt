@@ -18,7 +18,7 @@ use Rattle.occupancy.specs.Map.{mapWords}
 use Rattle.cache.specs.declared.Cache.{Cache}
 use Rattle.cache.specs.Record.{Formed}
 use Rattle.cache.specs.Sound.{sound}
-use Rattle.records.specs.Records.{mapPlace, entriesPlace, recordLength, wordLimit, listFrom, wordFrom, mapFrom, entryFrom, entriesFrom, recordIn, recordOf, putList, putHead, putWord, putMap, putFour, putEntry, putEntries, recordOver, recordInto}
+use Rattle.records.specs.Records.{mapPlace, entriesPlace, recordLength, wordLimit, listFrom, wordFrom, mapFrom, entryFrom, entriesFrom, recordIn, recordOf, putList, putHead, putWord, putMap, putEntry, putEntries, recordOver, recordInto}
 
 -- every word of the list has 32 bits
 abbrev pub Small : List ℕ → Type 0
@@ -27,10 +27,10 @@ Small words = (i : ℕ) → i < length words → getD words i 0 < wordLimit
 -- ---- things put one after the other
 
 -- a thing is put into so many words of its own, and read back from them wherever they are as they were put
-record Layout {A : Type 0} (size : ℕ) (from : List ℕ → ℕ → A) (put : ℕ → A → List ℕ → List ℕ) : Type 0 where
-  same-length : (at : ℕ) (x : A) (words : List ℕ) → length (put at x words) ≡ length words
-  others-stay : (at : ℕ) (x : A) (words : List ℕ) (i : ℕ) → (i < at) ⊎ (at + size ≤ i) → getD (put at x words) i 0 ≡ getD words i 0
-  back : (at : ℕ) (x : A) (words after : List ℕ) → at + size ≤ length words → ((i : ℕ) → i < at + size → getD after i 0 ≡ getD (put at x words) i 0) → from after at ≡ x
+pub record Layout {A : Type 0} (size : ℕ) (from : List ℕ → ℕ → A) (put : ℕ → A → List ℕ → List ℕ) : Type 0 where
+  pub same-length : (at : ℕ) (x : A) (words : List ℕ) → length (put at x words) ≡ length words
+  pub others-stay : (at : ℕ) (x : A) (words : List ℕ) (i : ℕ) → (i < at) ⊎ (at + size ≤ i) → getD (put at x words) i 0 ≡ getD words i 0
+  pub back : (at : ℕ) (x : A) (words after : List ℕ) → at + size ≤ length words → ((i : ℕ) → i < at + size → getD after i 0 ≡ getD (put at x words) i 0) → from after at ≡ x
 
 module _ {A : Type 0} (size : ℕ) (from : List ℕ → ℕ → A) (put : ℕ → A → List ℕ → List ℕ) (l : Layout size from put) where
   list-length : (xs : List A) (words : List ℕ) (at : ℕ) → length (putList size put at xs words) ≡ length words
@@ -69,7 +69,7 @@ list-again size from put words one at (suc count) fits =
 
 -- ---- a word of the map
 
-word-layout : Layout 2 wordFrom putWord
+pub word-layout : Layout 2 wordFrom putWord
 word-layout =
     record {
       same-length = λ at x words. length-set (set words at (x % wordLimit)) (at + 1) (x / wordLimit) ∙ length-set words at (x % wordLimit);
@@ -91,70 +91,61 @@ word-again words small at fits =
     ∙ ap (λ (ws : List ℕ). set ws (at + 1) (getD words (at + 1) 0)) (set-getD words at 0)
     ∙ set-getD words (at + 1) 0
 
--- a map of four words
-pub map-four : (map words : List ℕ) → length map ≡ mapWords → putMap map words ≡ putWord 9 (getD map 3 0) (putWord 7 (getD map 2 0) (putWord 5 (getD map 1 0) (putWord 3 (getD map 0 0) words)))
-unfolding putList
-map-four [] words h = absurd (omega arith)
-map-four (a ∷ []) words h = absurd (omega arith)
-map-four (a ∷ b ∷ []) words h = absurd (omega arith)
-map-four (a ∷ b ∷ c ∷ []) words h = absurd (omega arith)
-map-four (a ∷ b ∷ c ∷ d ∷ []) words h = refl
-map-four (a ∷ b ∷ c ∷ d ∷ e ∷ rest) words h = absurd (omega arith)
-
 -- ---- an entry
 
-module _ (words : List ℕ) (at a b c d : ℕ) where
-  pub four-length : length (putFour at a b c d words) ≡ length words
-  four-length =
-      length-set (set (set (set words at a) (at + 1) b) (at + 2) c) (at + 3) d
-      ∙ length-set (set (set words at a) (at + 1) b) (at + 2) c
-      ∙ length-set (set words at a) (at + 1) b
-      ∙ length-set words at a
+module _ (at : ℕ) (e : Entry) (words : List ℕ) where
+  abbrev one : List ℕ
+  one = set words at (e .page .0)
 
-  four-stay : (i : ℕ) → (i < at) ⊎ (at + 4 ≤ i) → getD (putFour at a b c d words) i 0 ≡ getD words i 0
-  four-stay i h =
-      getD-set-other (set (set (set words at a) (at + 1) b) (at + 2) c) (at + 3) i d 0 (away 3 (omega arith))
-      ∙ getD-set-other (set (set words at a) (at + 1) b) (at + 2) i c 0 (away 2 (omega arith))
-      ∙ getD-set-other (set words at a) (at + 1) i b 0 (away 1 (omega arith))
-      ∙ getD-set-other words at i a 0 (λ e. away 0 (omega arith) (omega arith))
+  abbrev two : List ℕ
+  two = set one (at + 1) (e .loaded .0)
+
+  abbrev three : List ℕ
+  three = set two (at + 2) (e .last .0)
+
+  three-length : (length one ≡ length words) × (length two ≡ length words) × (length three ≡ length words)
+  three-length =
+      let a = length-set words at (e .page .0) in
+      let b = length-set one (at + 1) (e .loaded .0) ∙ a in
+      (a, b, length-set two (at + 2) (e .last .0) ∙ b)
+
+  entry-stay : (i : ℕ) → (i < at) ⊎ (at + 4 ≤ i) → getD (putEntry at e words) i 0 ≡ getD words i 0
+  entry-stay i h =
+      getD-set-other three (at + 3) i (e .earlier .0) 0 (away 3 (omega arith))
+      ∙ getD-set-other two (at + 2) i (e .last .0) 0 (away 2 (omega arith))
+      ∙ getD-set-other one (at + 1) i (e .loaded .0) 0 (away 1 (omega arith))
+      ∙ getD-set-other words at i (e .page .0) 0 (λ q. away 0 (omega arith) (omega arith))
     where
       away : (j : ℕ) → j < 4 → i ≡ at + j → ⊥
       away j k q = ⊎-elim (λ m. omega arith) (λ m. omega arith) h
 
-  four-back : at + 4 ≤ length words
-      → (getD (putFour at a b c d words) at 0 ≡ a)
-      × (getD (putFour at a b c d words) (at + 1) 0 ≡ b)
-      × (getD (putFour at a b c d words) (at + 2) 0 ≡ c)
-      × (getD (putFour at a b c d words) (at + 3) 0 ≡ d)
-  four-back fits =
-      let one = set words at a in
-      let two = set one (at + 1) b in
-      let three = set two (at + 2) c in
-      let l1 : length one ≡ length words = length-set words at a in
-      let l2 : length two ≡ length words = length-set one (at + 1) b ∙ l1 in
-      let l3 : length three ≡ length words = length-set two (at + 2) c ∙ l2 in (
-        getD-set-other three (at + 3) at d 0 (λ e. omega arith)
-            ∙ getD-set-other two (at + 2) at c 0 (λ e. omega arith)
-            ∙ getD-set-other one (at + 1) at b 0 (λ e. omega arith)
-            ∙ getD-set-same words at a 0 (omega arith),
-        getD-set-other three (at + 3) (at + 1) d 0 (λ e. omega arith) ∙ getD-set-other two (at + 2) (at + 1) c 0 (λ e. omega arith) ∙ getD-set-same one (at + 1) b 0 (omega (arith, l1)),
-        getD-set-other three (at + 3) (at + 2) d 0 (λ e. omega arith) ∙ getD-set-same two (at + 2) c 0 (omega (arith, l2)),
-        getD-set-same three (at + 3) d 0 (omega (arith, l3)),
-      )
+  entry-back : (after : List ℕ) → at + 4 ≤ length words → ((i : ℕ) → i < at + 4 → getD after i 0 ≡ getD (putEntry at e words) i 0) → entryFrom after at ≡ e
+  entry-back after fits same =
+      let (l1, l2, l3) = three-length in
+      let page : getD after at 0 ≡ e .page .0 =
+      same at (omega arith)
+      ∙ getD-set-other three (at + 3) at (e .earlier .0) 0 (λ q. omega arith)
+      ∙ getD-set-other two (at + 2) at (e .last .0) 0 (λ q. omega arith)
+      ∙ getD-set-other one (at + 1) at (e .loaded .0) 0 (λ q. omega arith)
+      ∙ getD-set-same words at (e .page .0) 0 (omega arith) in
+      let loaded : getD after (at + 1) 0 ≡ e .loaded .0 =
+      same (at + 1) (omega arith)
+      ∙ getD-set-other three (at + 3) (at + 1) (e .earlier .0) 0 (λ q. omega arith)
+      ∙ getD-set-other two (at + 2) (at + 1) (e .last .0) 0 (λ q. omega arith)
+      ∙ getD-set-same one (at + 1) (e .loaded .0) 0 (omega (arith, l1)) in
+      let last : getD after (at + 2) 0 ≡ e .last .0 =
+      same (at + 2) (omega arith)
+      ∙ getD-set-other three (at + 3) (at + 2) (e .earlier .0) 0 (λ q. omega arith)
+      ∙ getD-set-same two (at + 2) (e .last .0) 0 (omega (arith, l2)) in
+      let earlier : getD after (at + 3) 0 ≡ e .earlier .0 = same (at + 3) (omega arith) ∙ getD-set-same three (at + 3) (e .earlier .0) 0 (omega (arith, l3)) in
+      rw (page, loaded, last, earlier) refl
 
--- the entry that stands at a place is made of the four words there
-entry-is : (e : Entry) (words : List ℕ) (at : ℕ) → getD words at 0 ≡ e .page .0 → getD words (at + 1) 0 ≡ e .loaded .0 → getD words (at + 2) 0 ≡ e .last .0 → getD words (at + 3) 0 ≡ e .earlier .0
-    → entryFrom words at ≡ e
-entry-is e words at p l t s = rw (p, l, t, s) refl
-
-entry-layout : Layout 4 entryFrom putEntry
+pub entry-layout : Layout 4 entryFrom putEntry
 entry-layout =
     record {
-      same-length = λ at e words. four-length words at (e .page .0) (e .loaded .0) (e .last .0) (e .earlier .0);
-      others-stay = λ at e words i h. four-stay words at (e .page .0) (e .loaded .0) (e .last .0) (e .earlier .0) i h;
-      back = λ at e words after fits same.
-          let put = four-back words at (e .page .0) (e .loaded .0) (e .last .0) (e .earlier .0) fits in
-          entry-is e after at (same at (omega arith) ∙ put .0) (same (at + 1) (omega arith) ∙ put .1) (same (at + 2) (omega arith) ∙ put .2) (same (at + 3) (omega arith) ∙ put .3);
+      same-length = λ at e words. length-set (three at e words) (at + 3) (e .earlier .0) ∙ three-length at e words .2;
+      others-stay = entry-stay;
+      back = λ at e words after fits same. entry-back at e words after fits same;
     }
 
 entry-again : (words : List ℕ) (at : ℕ) → at + 4 ≤ length words → putEntry at (entryFrom words at) words ≡ words

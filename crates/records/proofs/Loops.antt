@@ -1,4 +1,4 @@
--- Steps of the two loops between the entries and their words: an entry read is an entry fewer to read, and an entry put is an entry fewer to put.
+-- Steps of the loops between things and their words: one that is read is one fewer to read, and one that is put is one fewer to put.
 -- Assumes nothing.
 use mathlib.Core.Path.{_≡_, refl, sym, subst, _∙_}
 use mathlib.Core.List.{List, [], _∷_, _++_, append-assoc, append-nil}
@@ -6,49 +6,43 @@ use Prim.Native.Nat.{ℕ, suc, zero, _+_, _*_, _-_, _≤_, _<_}
 use native.Mathlib.Omega.{arith}
 use lib.ListN.{length, getD, take, drop, set, drop-of-length-le}
 use lib.Seq.{take-suc-set, take-length, drop-cons}
-use Rattle.paging.specs.declared.Entry.{Entry}
-use Rattle.records.specs.Records.{listFrom, entryFrom, putList, putEntry}
+use Rattle.records.specs.Records.{listFrom, putList}
 
--- so many entries from one place on
-abbrev pub readFrom : List ℕ → ℕ → ℕ → List Entry
-readFrom words at count = listFrom 4 entryFrom words at count
+module _ {A : Type 0} (size : ℕ) (from : List ℕ → ℕ → A) (words : List ℕ) (xs : List A) (place n i : ℕ) (all : List A) where
+  pub read-on : i < n → i < length xs
+      → take i xs ++ listFrom size from words (place + size * i) (n - i) ≡ all
+      → take (i + 1) (set xs i (from words (place + size * i))) ++ listFrom size from words (place + size * (i + 1)) (n - (i + 1)) ≡ all
+  unfolding listFrom
+  read-on h k e =
+      let x : A = from words (place + size * i) in
+      let f : n - i ≡ suc (n - (i + 1)) = omega arith in
+      let g : place + size * (i + 1) ≡ place + size * i + size = omega arith in
+      let s : i + 1 ≡ suc i = omega arith in
+      let t : take (i + 1) (set xs i x) ≡ take i xs ++ (x ∷ []) = rw s (take-suc-set xs i x k) in
+      let u : take i xs ++ (x ∷ listFrom size from words (place + size * i + size) (n - (i + 1))) ≡ all = rw (← e, f) refl in
+      rw (t, g, append-assoc (take i xs) (x ∷ []) (listFrom size from words (place + size * i + size) (n - (i + 1)))) u
 
--- entries from one place on
-abbrev pub putFrom : ℕ → List Entry → List ℕ → List ℕ
-putFrom at es words = putList 4 putEntry at es words
+  pub read-all : n ≤ i → i ≤ n → length xs ≡ n
+      → take i xs ++ listFrom size from words (place + size * i) (n - i) ≡ all
+      → xs ≡ all
+  unfolding listFrom
+  read-all h k l e =
+      let f : n - i ≡ 0 = omega arith in
+      let g : i ≡ length xs = omega arith in
+      let t : take i xs ≡ xs = rw g (take-length xs) in
+      let u : take i xs ++ [] ≡ all = rw (← e, f) refl in
+      sym (append-nil xs) ∙ rw (← t) u
 
-pub read-on : (words : List ℕ) (es : List Entry) (from n i : ℕ) (all : List Entry) → i < n → i < length es
-    → take i es ++ readFrom words (from + 4 * i) (n - i) ≡ all
-    → take (i + 1) (set es i (entryFrom words (from + 4 * i))) ++ readFrom words (from + 4 * (i + 1)) (n - (i + 1)) ≡ all
-unfolding listFrom
-read-on words es from n i all h k e =
-    let f : n - i ≡ suc (n - (i + 1)) = omega arith in
-    let g : from + 4 * (i + 1) ≡ from + 4 * i + 4 = omega arith in
-    let s : i + 1 ≡ suc i = omega arith in
-    let t : take (i + 1) (set es i (entryFrom words (from + 4 * i))) ≡ take i es ++ (entryFrom words (from + 4 * i) ∷ []) = rw s (take-suc-set es i (entryFrom words (from + 4 * i)) k) in
-    let u : take i es ++ (entryFrom words (from + 4 * i) ∷ readFrom words (from + 4 * i + 4) (n - (i + 1))) ≡ all = rw (← e, f) refl in
-    rw (t, g, append-assoc (take i es) (entryFrom words (from + 4 * i) ∷ []) (readFrom words (from + 4 * i + 4) (n - (i + 1)))) u
+module _ {A : Type 0} (size : ℕ) (put : ℕ → A → List ℕ → List ℕ) (xs : List A) (place i : ℕ) (words all : List ℕ) where
+  pub put-on : (d : A) → i < length xs
+      → putList size put (place + size * i) (drop i xs) words ≡ all
+      → putList size put (place + size * (i + 1)) (drop (i + 1) xs) (put (place + size * i) (getD xs i d) words) ≡ all
+  unfolding putList
+  put-on d h e =
+      let g : place + size * (i + 1) ≡ place + size * i + size = omega arith in
+      let s : i + 1 ≡ suc i = omega arith in
+      rw (g, s, ← e, drop-cons xs i d h) refl
 
-pub read-all : (words : List ℕ) (es : List Entry) (from n i : ℕ) (all : List Entry) → n ≤ i → i ≤ n → length es ≡ n
-    → take i es ++ readFrom words (from + 4 * i) (n - i) ≡ all
-    → es ≡ all
-unfolding listFrom
-read-all words es from n i all h k l e =
-    let f : n - i ≡ 0 = omega arith in
-    let g : i ≡ length es = omega arith in
-    let t : take i es ≡ es = rw g (take-length es) in
-    let u : take i es ++ [] ≡ all = rw (← e, f) refl in
-    sym (append-nil es) ∙ rw (← t) u
-
-pub put-on : (es : List Entry) (d : Entry) (from i : ℕ) (words all : List ℕ) → i < length es
-    → putFrom (from + 4 * i) (drop i es) words ≡ all
-    → putFrom (from + 4 * (i + 1)) (drop (i + 1) es) (putEntry (from + 4 * i) (getD es i d) words) ≡ all
-unfolding putList
-put-on es d from i words all h e =
-    let g : from + 4 * (i + 1) ≡ from + 4 * i + 4 = omega arith in
-    let s : i + 1 ≡ suc i = omega arith in
-    rw (g, s, ← e, drop-cons es i d h) refl
-
-pub put-all : (es : List Entry) (i at : ℕ) (words all : List ℕ) → length es ≤ i → putFrom at (drop i es) words ≡ all → words ≡ all
-unfolding putList
-put-all es i at words all h e = subst (λ (left : List Entry). putFrom at left words ≡ all) (drop-of-length-le es h) e
+  pub put-all : length xs ≤ i → putList size put (place + size * i) (drop i xs) words ≡ all → words ≡ all
+  unfolding putList
+  put-all h e = subst (λ (left : List A). putList size put (place + size * i) left words ≡ all) (drop-of-length-le xs h) e

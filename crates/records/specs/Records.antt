@@ -89,12 +89,9 @@ putWord at word words = set (set words at (word % wordLimit)) (at + 1) (word / w
 abbrev pub putMap : List ℕ → List ℕ → List ℕ
 putMap map words = putList 2 putWord mapPlace map words
 
--- four words from one place on
-abbrev pub putFour : ℕ → ℕ → ℕ → ℕ → ℕ → List ℕ → List ℕ
-putFour at a b c d words = set (set (set (set words at a) (at + 1) b) (at + 2) c) (at + 3) d
-
 abbrev pub putEntry : ℕ → Entry → List ℕ → List ℕ
-putEntry at e words = putFour at (e .page .0) (e .loaded .0) (e .last .0) (e .earlier .0) words
+putEntry at e words =
+    set (set (set (set words at (e .page .0)) (at + 1) (e .loaded .0)) (at + 2) (e .last .0)) (at + 3) (e .earlier .0)
 
 abbrev pub putEntries : List Entry → List ℕ → List ℕ
 putEntries es words = putList 4 putEntry entriesPlace es words

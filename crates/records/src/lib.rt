@@ -3,7 +3,7 @@
 ghost use mathlib.Core.Path.{_≡_};
 ghost use Prim.Native.Nat.{_+_, _≤_, _<_};
 ghost use lib.ListN.{length};
-ghost use Rattle.records.specs.Records.{recordLength, wordLimit, wordFrom, mapFrom, entryFrom, recordOf, putHead, putWord, putMap, putFour, putEntries, recordInto};
+ghost use Rattle.records.specs.Records.{recordLength, wordLimit, wordFrom, mapFrom, entryFrom, entriesFrom, recordOf, putHead, putWord, putMap, putEntry, putEntries, recordInto};
 use cache::Cache;
 use paging::Entry;
 use paging::Moment;
@@ -59,12 +59,10 @@ fn entry_from(words: &[u32], at: usize) -> Entry
     }
 }
 
-pub fn record_of(words: &[u32]) -> Cache
-    ensures { λ r. ⌜ r ≡ recordOf (now (words .entry)) ⌝ }
+fn entries_from(words: &[u32]) -> [Entry; ENTRIES]
+    requires { ⌜ recordLength ≤ length (now words) ⌝ }
+    ensures { λ r. ⌜ r ≡ entriesFrom (now (words .entry)) ⌝ }
 {
-    if words.len() < WORDS {
-        return Cache::blank();
-    }
     let first = entry_from(words, FIRST);
     // The first everywhere, then each in its place.
     let mut entries = [first; ENTRIES];
@@ -73,7 +71,17 @@ pub fn record_of(words: &[u32]) -> Cache
         entries[i] = entry_from(words, FIRST + 4 * i);
         i += 1;
     }
+    entries
+}
+
+pub fn record_of(words: &[u32]) -> Cache
+    ensures { λ r. ⌜ r ≡ recordOf (now (words .entry)) ⌝ }
+{
+    if words.len() < WORDS {
+        return Cache::blank();
+    }
     let map = map_from(words);
+    let entries = entries_from(words);
     Cache {
         rule: words[0],
         frames: words[1],
@@ -105,20 +113,21 @@ fn put_map(map: [u64; occupancy::WORDS], words: &mut [u32])
     requires { ⌜ recordLength ≤ length (now words) ⌝ }
     ensures { λ r. ⌜ now (words .exit) ≡ putMap map (now (words .entry)) ⌝ }
 {
-    put_word(words, MAP, map[0]);
-    put_word(words, MAP + 2, map[1]);
-    put_word(words, MAP + 4, map[2]);
-    put_word(words, MAP + 6, map[3]);
+    let mut i = 0;
+    while i < occupancy::WORDS {
+        put_word(words, MAP + 2 * i, map[i]);
+        i += 1;
+    }
 }
 
-fn put_four(words: &mut [u32], at: usize, a: u32, b: u32, c: u32, d: u32)
+fn put_entry(words: &mut [u32], at: usize, entry: Entry)
     requires { ⌜ at + 4 ≤ length (now words) ⌝ }
-    ensures { λ r. ⌜ now (words .exit) ≡ putFour at a b c d (now (words .entry)) ⌝ }
+    ensures { λ r. ⌜ now (words .exit) ≡ putEntry at entry (now (words .entry)) ⌝ }
 {
-    words[at] = a;
-    words[at + 1] = b;
-    words[at + 2] = c;
-    words[at + 3] = d;
+    words[at] = entry.page.0;
+    words[at + 1] = entry.loaded.0;
+    words[at + 2] = entry.last.0;
+    words[at + 3] = entry.earlier.0;
 }
 
 fn put_entries(cache: Cache, words: &mut [u32])
@@ -127,15 +136,7 @@ fn put_entries(cache: Cache, words: &mut [u32])
 {
     let mut i = 0;
     while i < ENTRIES {
-        let e = cache.entries[i];
-        put_four(
-            words,
-            FIRST + 4 * i,
-            e.page.0,
-            e.loaded.0,
-            e.last.0,
-            e.earlier.0,
-        );
+        put_entry(words, FIRST + 4 * i, cache.entries[i]);
         i += 1;
     }
 }

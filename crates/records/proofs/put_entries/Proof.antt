@@ -7,14 +7,14 @@ use native.Mathlib.Omega.{arith}
 use lib.ListN.{length, drop}
 use Rattle.paging.specs.Calls.{frameLimit}
 use Rattle.cache.proofs.Long.{formed}
-use Rattle.records.specs.Records.{entriesPlace, putEntries}
-use Rattle.records.proofs.Back.{four-length}
-use Rattle.records.proofs.Loops.{putFrom, put-on, put-all}
+use Rattle.records.specs.Records.{entriesPlace, putList, putEntry, putEntries}
+use Rattle.records.proofs.Back.{entry-layout}
+use Rattle.records.proofs.Loops.{put-on, put-all}
 use Rattle.records.proofs.put_entries.Statement.{statement}
 use Rattle.records.proofs.put_entries.Tie as tie
 
 abbrev Inv-loop : tie.InvT-loop
-Inv-loop words₀ cache i₀ words i = (i ≤ frameLimit) × (length words ≡ length words₀) × (putFrom (entriesPlace + 4 * i) (drop i (cache .entries)) words ≡ putEntries (cache .entries) words₀)
+Inv-loop words₀ cache i₀ words i = (i ≤ frameLimit) × (length words ≡ length words₀) × (putList 4 putEntry (entriesPlace + 4 * i) (drop i (cache .entries)) words ≡ putEntries (cache .entries) words₀)
 
 abbrev μ-loop : tie.MeasureT-loop
 μ-loop words₀ cache i₀ words i = frameLimit - i
@@ -22,20 +22,20 @@ abbrev μ-loop : tie.MeasureT-loop
 loop-holds : tie.Need-loop-holds Inv-loop μ-loop
 loop-holds c = (omega arith, refl, refl)
 
-mul-e : tie.Need-mul-e Inv-loop μ-loop
-mul-e c = search needs
+mul-put-entry : tie.Need-mul-put-entry Inv-loop μ-loop
+mul-put-entry c = search needs
 
-element-copy-out-e : tie.Need-element-copy-out-e Inv-loop μ-loop
-element-copy-out-e c = search needs
+add-put-entry : tie.Need-add-put-entry Inv-loop μ-loop
+add-put-entry c = search needs
 
-mul-put-four : tie.Need-mul-put-four Inv-loop μ-loop
-mul-put-four c = search needs
+mul-put-entry-2 : tie.Need-mul-put-entry-2 Inv-loop μ-loop
+mul-put-entry-2 c = search needs
 
-add-put-four : tie.Need-add-put-four Inv-loop μ-loop
-add-put-four c = search needs
+element-copy-out-put-entry : tie.Need-element-copy-out-put-entry Inv-loop μ-loop
+element-copy-out-put-entry c = search needs
 
-put-four-requires : tie.Need-put-four-requires Inv-loop μ-loop
-put-four-requires c κs = search needs
+put-entry-requires : tie.Need-put-entry-requires Inv-loop μ-loop
+put-entry-requires c κs = search needs
 
 add-i : tie.Need-add-i Inv-loop μ-loop
 add-i c = search needs
@@ -50,8 +50,8 @@ loop-again c =
     let s = l .before .before in
     let h : l .loop .i < length (s .args .t1 .entries) = omega (arith, formed (s .args .t1) _ (s .good .0) .all-entries) in (
       omega arith,
-      rw (p .put-four .ensures) (four-length (l .loop .words) _ _ _ _ _ ∙ l .loop .inv .1),
-      rw (p .put-four .ensures) (put-on (s .args .t1 .entries) _ entriesPlace (l .loop .i) (l .loop .words) _ h (l .loop .inv .2)),
+      rw (p .put-entry .ensures) (entry-layout .same-length _ _ (l .loop .words) ∙ l .loop .inv .1),
+      rw (p .put-entry .ensures) (put-on 4 putEntry (s .args .t1 .entries) entriesPlace (l .loop .i) (l .loop .words) _ _ h (l .loop .inv .2)),
     )
 
 same-length : tie.Need-same-length Inv-loop μ-loop
@@ -62,7 +62,7 @@ returns c =
     let l = c .before in
     let s = l .before .before in
     let h : length (s .args .t1 .entries) ≤ l .loop .i = omega (arith, formed (s .args .t1) _ (s .good .0) .all-entries) in
-    put-all (s .args .t1 .entries) (l .loop .i) (entriesPlace + 4 * l .loop .i) (l .loop .words) _ h (l .loop .inv .2)
+    put-all 4 putEntry (s .args .t1 .entries) entriesPlace (l .loop .i) (l .loop .words) _ h (l .loop .inv .2)
 
 pub put-entries-spec : {M : Type 1} → statement M
 put-entries-spec =
@@ -71,11 +71,11 @@ put-entries-spec =
     Inv-loop
     μ-loop
     loop-holds
-    mul-e
-    element-copy-out-e
-    mul-put-four
-    add-put-four
-    put-four-requires
+    mul-put-entry
+    add-put-entry
+    mul-put-entry-2
+    element-copy-out-put-entry
+    put-entry-requires
     add-i
     loop-less
     loop-again

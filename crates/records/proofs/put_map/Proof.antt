@@ -1,71 +1,83 @@
--- `records::put_map` meets its contract: its type says that a map has four words.
+-- `records::put_map` meets its contract.
 -- Assumes nothing.
 use borrow.Author.Needs.{needs}
-use mathlib.Core.Path.{sym}
+use mathlib.Core.Path.{_≡_, refl, _∙_}
+use Prim.Native.Nat.{_+_, _*_, _-_, _≤_, _<_}
+use native.Mathlib.Omega.{arith}
+use lib.ListN.{length, drop}
+use Rattle.occupancy.specs.Map.{mapWords}
 use Rattle.occupancy.proofs.Made.{made}
-use Rattle.records.proofs.Back.{map-four}
+use Rattle.records.specs.Records.{mapPlace, putList, putWord, putMap}
+use Rattle.records.proofs.Back.{word-layout}
+use Rattle.records.proofs.Loops.{put-on, put-all}
 use Rattle.records.proofs.put_map.Statement.{statement}
 use Rattle.records.proofs.put_map.Tie as tie
 
-array-read-put-word : tie.Need-array-read-put-word
-array-read-put-word c = search needs
+abbrev Inv-loop : tie.InvT-loop
+Inv-loop words₀ map i₀ words i = (i ≤ mapWords) × (length words ≡ length words₀) × (putList 2 putWord (mapPlace + 2 * i) (drop i map) words ≡ putMap map words₀)
 
-put-word-requires : tie.Need-put-word-requires
-put-word-requires c κs = search needs
+abbrev μ-loop : tie.MeasureT-loop
+μ-loop words₀ map i₀ words i = mapWords - i
 
-add-put-word : tie.Need-add-put-word
+loop-holds : tie.Need-loop-holds Inv-loop μ-loop
+loop-holds c = (omega arith, refl, refl)
+
+mul-put-word : tie.Need-mul-put-word Inv-loop μ-loop
+mul-put-word c = search needs
+
+add-put-word : tie.Need-add-put-word Inv-loop μ-loop
 add-put-word c = search needs
 
-array-read-put-word-2 : tie.Need-array-read-put-word-2
-array-read-put-word-2 c = search needs
+mul-put-word-2 : tie.Need-mul-put-word-2 Inv-loop μ-loop
+mul-put-word-2 c = search needs
 
-put-word-requires-2 : tie.Need-put-word-requires-2
-put-word-requires-2 c κs = search needs
+array-read-put-word : tie.Need-array-read-put-word Inv-loop μ-loop
+array-read-put-word c = search needs
 
-add-put-word-2 : tie.Need-add-put-word-2
-add-put-word-2 c = search needs
+put-word-requires : tie.Need-put-word-requires Inv-loop μ-loop
+put-word-requires c κs = search needs
 
-array-read-put-word-3 : tie.Need-array-read-put-word-3
-array-read-put-word-3 c = search needs
+add-i : tie.Need-add-i Inv-loop μ-loop
+add-i c = search needs
 
-put-word-requires-3 : tie.Need-put-word-requires-3
-put-word-requires-3 c κs = search needs
+loop-less : tie.Need-loop-less Inv-loop μ-loop
+loop-less c = search needs
 
-add-put-word-3 : tie.Need-add-put-word-3
-add-put-word-3 c = search needs
+loop-again : tie.Need-loop-again Inv-loop μ-loop
+loop-again c =
+    let p = c .before .before in
+    let l = p .before .before .before in
+    let s = l .before .before in
+    let h : l .loop .i < length (s .args .t1) = omega (arith, made (s .args .t1) _ (s .good .0) .four) in (
+      omega arith,
+      rw (p .put-word .ensures) (word-layout .same-length _ _ (l .loop .words) ∙ l .loop .inv .1),
+      rw (p .put-word .ensures) (put-on 2 putWord (s .args .t1) mapPlace (l .loop .i) (l .loop .words) _ _ h (l .loop .inv .2)),
+    )
 
-array-read-put-word-4 : tie.Need-array-read-put-word-4
-array-read-put-word-4 c = search needs
+same-length : tie.Need-same-length Inv-loop μ-loop
+same-length c = c .before .loop .inv .1
 
-put-word-requires-4 : tie.Need-put-word-requires-4
-put-word-requires-4 c κs = search needs
-
-same-length : tie.Need-same-length
-same-length c = search needs
-
-returns : tie.Need-returns
+returns : tie.Need-returns Inv-loop μ-loop
 returns c =
-    let w4 = c .before .before in
-    let w3 = w4 .before .before .before .before in
-    let w2 = w3 .before .before .before .before in
-    let w1 = w2 .before .before .before .before in
-    let s = w1 .before .before .before in
-    rw (w4 .put-word4 .ensures, w3 .put-word3 .ensures, w2 .put-word2 .ensures, w1 .put-word .ensures) (sym (map-four (s .args .t1) (s .args .words .now) (made (s .args .t1) _ (s .good .0) .four)))
+    let l = c .before in
+    let s = l .before .before in
+    let h : length (s .args .t1) ≤ l .loop .i = omega (arith, made (s .args .t1) _ (s .good .0) .four) in
+    put-all 2 putWord (s .args .t1) mapPlace (l .loop .i) (l .loop .words) _ h (l .loop .inv .2)
 
 pub put-map-spec : {M : Type 1} → statement M
 put-map-spec =
     tie.close
     (tie.spec
+    Inv-loop
+    μ-loop
+    loop-holds
+    mul-put-word
+    add-put-word
+    mul-put-word-2
     array-read-put-word
     put-word-requires
-    add-put-word
-    array-read-put-word-2
-    put-word-requires-2
-    add-put-word-2
-    array-read-put-word-3
-    put-word-requires-3
-    add-put-word-3
-    array-read-put-word-4
-    put-word-requires-4
+    add-i
+    loop-less
+    loop-again
     same-length
     returns)

@@ -1,113 +1,54 @@
 -- `records::record_of` meets its contract.
 -- Assumes nothing.
 use borrow.Author.Needs.{needs}
-use mathlib.Core.Path.{_≡_, refl, _∙_}
-use mathlib.Core.List.{_++_}
-use Prim.Native.Nat.{_+_, _*_, _-_, _≤_, _<_}
+use mathlib.Core.Path.{refl}
 use native.Mathlib.Omega.{arith}
-use lib.ListN.{length, take, length-set}
+use lib.ListN.{length}
 use borrow.Author.Tests.{lt-ltb, le-ltb}
-use Rattle.paging.specs.Calls.{frameLimit}
-use Rattle.records.specs.Records.{entriesPlace, recordLength, entriesFrom, recordIn, recordOf}
-use Rattle.records.proofs.Loops.{readFrom, read-on, read-all}
+use Rattle.records.specs.Records.{recordLength, recordIn, recordOf}
 use Rattle.records.proofs.record_of.Statement.{statement}
 use Rattle.records.proofs.record_of.Tie as tie
 
-abbrev Inv-loop : tie.InvT-loop
-Inv-loop words entries₀ i₀ entries i =
-    (i ≤ frameLimit) × (length entries ≡ frameLimit) × (take i entries ++ readFrom words (entriesPlace + 4 * i) (frameLimit - i) ≡ entriesFrom words)
-
-abbrev μ-loop : tie.MeasureT-loop
-μ-loop words entries₀ i₀ entries i = frameLimit - i
-
-blank-requires : tie.Need-blank-requires Inv-loop μ-loop
+blank-requires : tie.Need-blank-requires
 blank-requires c κs = search needs
 
-returns : tie.Need-returns Inv-loop μ-loop
+returns : tie.Need-returns
 unfolding recordOf
 returns c =
     let s = c .before .before .before in
     rw (c .blank .ensures, lt-ltb (length (s .args .words .now)) recordLength (omega arith)) refl
 
-entry-from-requires : tie.Need-entry-from-requires Inv-loop μ-loop
-entry-from-requires c κs = search needs
-
-loop-holds : tie.Need-loop-holds Inv-loop μ-loop
-loop-holds c = (omega arith, refl, refl)
-
-mul-entry-from : tie.Need-mul-entry-from Inv-loop μ-loop
-mul-entry-from c = search needs
-
-add-entry-from : tie.Need-add-entry-from Inv-loop μ-loop
-add-entry-from c = search needs
-
-entry-from-requires-2 : tie.Need-entry-from-requires-2 Inv-loop μ-loop
-entry-from-requires-2 c κs = search needs
-
-mul-entries : tie.Need-mul-entries Inv-loop μ-loop
-mul-entries c = search needs
-
-array-set-from-entries : tie.Need-array-set-from-entries Inv-loop μ-loop
-array-set-from-entries c = search needs
-
-add-i : tie.Need-add-i Inv-loop μ-loop
-add-i c = search needs
-
-loop-less : tie.Need-loop-less Inv-loop μ-loop
-loop-less c = search needs
-
-loop-again : tie.Need-loop-again Inv-loop μ-loop
-loop-again c =
-    let l = c .before .before in
-    let s = l .before .before .before .before in
-    let h : l .loop .i < frameLimit = omega arith in
-    let k : l .loop .i < length (l .loop .entries) = omega (arith, l .loop .inv .1) in (
-      omega arith,
-      length-set (l .loop .entries) (l .loop .i) (c .entry-from2 .result) ∙ l .loop .inv .1,
-      rw (c .entry-from2 .ensures) (read-on (s .args .words .now) (l .loop .entries) entriesPlace frameLimit (l .loop .i) _ h k (l .loop .inv .2)),
-    )
-
-map-from-requires : tie.Need-map-from-requires Inv-loop μ-loop
+map-from-requires : tie.Need-map-from-requires
 map-from-requires c κs = search needs
 
-shared-slice-read-t16 : tie.Need-shared-slice-read-t16 Inv-loop μ-loop
-shared-slice-read-t16 c = search needs
+entries-from-requires : tie.Need-entries-from-requires
+entries-from-requires c κs = search needs
 
-shared-slice-read-t18 : tie.Need-shared-slice-read-t18 Inv-loop μ-loop
-shared-slice-read-t18 c = search needs
+shared-slice-read-t7 : tie.Need-shared-slice-read-t7
+shared-slice-read-t7 c = search needs
 
-shared-slice-read-t20 : tie.Need-shared-slice-read-t20 Inv-loop μ-loop
-shared-slice-read-t20 c = search needs
+shared-slice-read-t9 : tie.Need-shared-slice-read-t9
+shared-slice-read-t9 c = search needs
 
-returns-2 : tie.Need-returns-2 Inv-loop μ-loop
+shared-slice-read-t11 : tie.Need-shared-slice-read-t11
+shared-slice-read-t11 c = search needs
+
+returns-2 : tie.Need-returns-2
 unfolding recordOf recordIn
 returns-2 c =
-    let m = c .before .before .before in
-    let l = m .before .before in
-    let s = l .before .before .before .before in
-    let h : frameLimit ≤ l .loop .i = omega arith in
-    rw (le-ltb (length (s .args .words .now)) recordLength (omega arith), m .map-from .ensures, read-all (s .args .words .now) (l .loop .entries) entriesPlace frameLimit (l .loop .i) _ h (l .loop .inv .0) (l .loop .inv .1) (l .loop .inv .2)) refl
+    let e = c .before .before .before in
+    let s = e .before .before .before .before in
+    rw (le-ltb (length (s .args .words .now)) recordLength (omega arith), e .entries-from .ensures, e .before .map-from .ensures) refl
 
 pub record-of-spec : {M : Type 1} → statement M
 record-of-spec =
     tie.close
     (tie.spec
-    Inv-loop
-    μ-loop
     blank-requires
     returns
-    entry-from-requires
-    loop-holds
-    mul-entry-from
-    add-entry-from
-    entry-from-requires-2
-    mul-entries
-    array-set-from-entries
-    add-i
-    loop-less
-    loop-again
     map-from-requires
-    shared-slice-read-t16
-    shared-slice-read-t18
-    shared-slice-read-t20
+    entries-from-requires
+    shared-slice-read-t7
+    shared-slice-read-t9
+    shared-slice-read-t11
     returns-2)

@@ -1,11 +1,11 @@
--- `records::put_four` meets its contract: a word put leaves as many words.
+-- `records::put_entry` meets its contract: a word put leaves as many words.
 -- Assumes nothing.
 use borrow.Author.Needs.{needs}
 use Prim.Native.Nat.{_+_, _<_}
 use native.Mathlib.Omega.{arith}
 use lib.ListN.{length, set, length-set}
-use Rattle.records.proofs.put_four.Statement.{statement}
-use Rattle.records.proofs.put_four.Tie as tie
+use Rattle.records.proofs.put_entry.Statement.{statement}
+use Rattle.records.proofs.put_entry.Tie as tie
 
 mul-words : tie.Need-mul-words
 mul-words c = search needs
@@ -22,8 +22,8 @@ mul-words-2 c = search needs
 slice-write-words-2 : tie.Need-slice-write-words-2
 slice-write-words-2 c =
     let s = c .args in
-    let one = set (s .words .now) (s .at) (s .a) in
-    let h : s .at + 1 < length one = omega (arith, length-set (s .words .now) (s .at) (s .a)) in h
+    let one = set (s .words .now) (s .at) (s .entry .page .0) in
+    let h : s .at + 1 < length one = omega (arith, length-set (s .words .now) (s .at) (s .entry .page .0)) in h
 
 add-words-2 : tie.Need-add-words-2
 add-words-2 c = search needs
@@ -34,9 +34,9 @@ mul-words-3 c = search needs
 slice-write-words-3 : tie.Need-slice-write-words-3
 slice-write-words-3 c =
     let s = c .args in
-    let one = set (s .words .now) (s .at) (s .a) in
-    let two = set one (s .at + 1) (s .b) in
-    let h : s .at + 2 < length two = omega (arith, length-set (s .words .now) (s .at) (s .a), length-set one (s .at + 1) (s .b)) in h
+    let one = set (s .words .now) (s .at) (s .entry .page .0) in
+    let two = set one (s .at + 1) (s .entry .loaded .0) in
+    let h : s .at + 2 < length two = omega (arith, length-set (s .words .now) (s .at) (s .entry .page .0), length-set one (s .at + 1) (s .entry .loaded .0)) in h
 
 add-words-3 : tie.Need-add-words-3
 add-words-3 c = search needs
@@ -47,10 +47,10 @@ mul-words-4 c = search needs
 slice-write-words-4 : tie.Need-slice-write-words-4
 slice-write-words-4 c =
     let s = c .args in
-    let one = set (s .words .now) (s .at) (s .a) in
-    let two = set one (s .at + 1) (s .b) in
-    let three = set two (s .at + 2) (s .c) in
-    let h : s .at + 3 < length three = omega (arith, length-set (s .words .now) (s .at) (s .a), length-set one (s .at + 1) (s .b), length-set two (s .at + 2) (s .c)) in h
+    let one = set (s .words .now) (s .at) (s .entry .page .0) in
+    let two = set one (s .at + 1) (s .entry .loaded .0) in
+    let three = set two (s .at + 2) (s .entry .last .0) in
+    let h : s .at + 3 < length three = omega (arith, length-set (s .words .now) (s .at) (s .entry .page .0), length-set one (s .at + 1) (s .entry .loaded .0), length-set two (s .at + 2) (s .entry .last .0)) in h
 
 same-length : tie.Need-same-length
 same-length c = search needs
@@ -58,8 +58,8 @@ same-length c = search needs
 returns : tie.Need-returns
 returns c = search needs
 
-pub put-four-spec : {M : Type 1} → statement M
-put-four-spec =
+pub put-entry-spec : {M : Type 1} → statement M
+put-entry-spec =
     tie.close
     (tie.spec
     mul-words
