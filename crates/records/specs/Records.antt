@@ -22,7 +22,7 @@ mapPlace = 3
 abbrev pub entriesPlace : ℕ
 entriesPlace = mapPlace + 2 * mapWords
 
--- how many words a record takes
+-- how many words a record takes: 1,035
 abbrev pub recordLength : ℕ
 recordLength = entriesPlace + 4 * frameLimit
 
