@@ -1,4 +1,4 @@
-// Fresh and Feed. A record is 1,028 words: rule, frames, clock, held, then page, loaded, last, earlier of each entry; an entry that isn't given is all marks.
+// Fresh and Feed. A record is 1,035 words: rule, frames, clock, the map of occupied frames in eight words, low bits first, then page, loaded, last, earlier of each entry; an entry that isn't given is all marks.
 // Each request is fed to the record in place and by value, side by side: a line has what came out in place, whether the record stayed as it was, and whether both ways agree.
 ghost use mathlib.Core.Path.{_≡_};
 ghost use Rattle.cache.specs.Feed.{fed};
@@ -6,9 +6,11 @@ use crate::script::Line;
 use crate::script::part;
 use crate::show;
 use cache::Cache;
+use cache::Fed;
 use cache::Reply;
 use paging::Gate;
 use paging::Page;
+use records::WORDS;
 
 fn show_refusal(number: u32, place: u32) {
     io::write_all(1, b" refused");
@@ -52,7 +54,7 @@ fn same(a: &[u32], b: &[u32]) -> bool {
     same
 }
 
-fn same_records(a: &[u32; 1028], b: &[u32; 1028]) -> bool {
+fn same_records(a: &[u32; WORDS], b: &[u32; WORDS]) -> bool {
     same(a, b)
 }
 
@@ -66,23 +68,27 @@ fn show_agreed(replies: bool, next: bool) {
     io::write_all(1, b", NOT AGREED");
 }
 
-fn by_value(record: &[u32; 1028], page: u32, next: &mut [u32; 1028]) -> [u32; 4] {
-    let a = records::record_of(record).feed(Page(page));
-    records::record_into(a.next, next);
-    let outcome = a.outcome;
+// The next record goes into words, the reply into numbers.
+fn left(fed: Fed, next: &mut [u32; WORDS]) -> [u32; 4] {
+    records::record_into(fed.next, next);
+    let outcome = fed.outcome;
     told(outcome)
 }
 
-fn in_place(record: &[u32; 1028], page: u32, next: &mut [u32; 1028]) -> [u32; 4] {
-    let a = front::feed_through(records::record_of(record), Page(page));
-    records::record_into(a.next, next);
-    let outcome = a.outcome;
-    told(outcome)
+fn by_value(record: &[u32; WORDS], page: u32, next: &mut [u32; WORDS]) -> [u32; 4] {
+    left(records::record_of(record).feed(Page(page)), next)
+}
+
+fn in_place(record: &[u32; WORDS], page: u32, next: &mut [u32; WORDS]) -> [u32; 4] {
+    left(
+        front::feed_through(records::record_of(record), Page(page)),
+        next,
+    )
 }
 
 // One request both ways.
-fn feed_both(was: &[u32; 1028], page: u32, record: &mut [u32; 1028]) {
-    let mut other = [0u32; 1028];
+fn feed_both(was: &[u32; WORDS], page: u32, record: &mut [u32; WORDS]) {
+    let mut other = [0u32; WORDS];
     let a = by_value(was, page, &mut other);
     let b = in_place(was, page, record);
     show_reply(b);
@@ -93,9 +99,9 @@ fn feed_both(was: &[u32; 1028], page: u32, record: &mut [u32; 1028]) {
 }
 
 // page, for the record of the line before, or page; record
-pub(crate) fn feed(line: Line, words: &[u32; 16500], record: &mut [u32; 1028]) {
+pub(crate) fn feed(line: Line, words: &[u32; 16500], record: &mut [u32; WORDS]) {
     if line.first != 0 {
-        take(part(words, line.first, 1029), record);
+        take(part(words, line.first, 1 + WORDS), record);
     }
     let was = *record;
     feed_both(&was, words[0], record);
@@ -130,7 +136,12 @@ struct Replies {
     second: [u32; 4],
 }
 
-fn both_in_place(record: &[u32; 1028], first: u32, second: u32, next: &mut [u32; 1028]) -> Replies {
+fn both_in_place(
+    record: &[u32; WORDS],
+    first: u32,
+    second: u32,
+    next: &mut [u32; WORDS],
+) -> Replies {
     let two = kept(records::record_of(record), Page(first), Page(second));
     records::record_into(two.next, next);
     let one = two.first;
@@ -141,8 +152,13 @@ fn both_in_place(record: &[u32; 1028], first: u32, second: u32, next: &mut [u32;
     }
 }
 
-fn both_by_value(record: &[u32; 1028], first: u32, second: u32, next: &mut [u32; 1028]) -> Replies {
-    let mut after = [0u32; 1028];
+fn both_by_value(
+    record: &[u32; WORDS],
+    first: u32,
+    second: u32,
+    next: &mut [u32; WORDS],
+) -> Replies {
+    let mut after = [0u32; WORDS];
     let one = by_value(record, first, &mut after);
     Replies {
         first: one,
@@ -168,9 +184,9 @@ fn show_both(two: Replies, page: u32) {
 }
 
 // page page: two requests of a kept record, and both by value
-pub(crate) fn twice(words: &[u32; 16500], record: &mut [u32; 1028]) {
+pub(crate) fn twice(words: &[u32; 16500], record: &mut [u32; WORDS]) {
     let was = *record;
-    let mut other = [0u32; 1028];
+    let mut other = [0u32; WORDS];
     let a = both_by_value(&was, words[0], words[1], &mut other);
     let b = both_in_place(&was, words[0], words[1], record);
     show_both(b, words[1]);
@@ -178,7 +194,7 @@ pub(crate) fn twice(words: &[u32; 16500], record: &mut [u32; 1028]) {
 }
 
 // record, for the requests of the lines after
-pub(crate) fn take(words: &[u32], record: &mut [u32; 1028]) {
+pub(crate) fn take(words: &[u32], record: &mut [u32; WORDS]) {
     records::record_into(records::record_of(words), record);
 }
 
@@ -193,7 +209,7 @@ fn show_gate(gate: Gate) {
     }
 }
 
-fn fresh(rule: u32, frames: u32, record: &mut [u32; 1028]) {
+fn fresh(rule: u32, frames: u32, record: &mut [u32; WORDS]) {
     let f = Cache::fresh(rule, frames);
     records::record_into(f.cache, record);
     let gate = f.gate;
@@ -201,11 +217,33 @@ fn fresh(rule: u32, frames: u32, record: &mut [u32; 1028]) {
 }
 
 // rule frames
-pub(crate) fn new(words: &[u32; 16500], record: &mut [u32; 1028]) {
-    let mut blank = [0u32; 1028];
+pub(crate) fn new(words: &[u32; 16500], record: &mut [u32; WORDS]) {
+    let mut blank = [0u32; WORDS];
     records::record_into(Cache::blank(), &mut blank);
     fresh(words[0], words[1], record);
     if same_records(&blank, record) {
         io::write_all(1, b", the blank record");
     }
+}
+
+// The pages from one up to another, which isn't fed itself.
+fn feed_each(from: u32, to: u32, record: &mut [u32; WORDS]) {
+    for page in from..to {
+        let was = *record;
+        in_place(&was, page, record);
+    }
+}
+
+// What stands before the entries: rule, frames, clock, and the map.
+fn show_front(record: &[u32; WORDS]) {
+    for i in 0..11 {
+        show::number(record[i]);
+    }
+}
+
+// page page: feeds each page from the first up to the second, if there are any, and shows what then stands before the entries
+pub(crate) fn map(words: &[u32; 16500], record: &mut [u32; WORDS]) {
+    feed_each(words[0], words[1], record);
+    io::write_all(1, b" :");
+    show_front(record);
 }

@@ -6,6 +6,7 @@ mod script;
 mod show;
 
 use paging::MARK;
+use records::WORDS;
 use script::Line;
 
 // count, write, judge, better, and turns: 300 pages in turn.
@@ -27,8 +28,8 @@ fn of_lists(line: Line, words: &[u32; 16500]) {
     }
 }
 
-// new, record, feed, and kept: two requests of a kept record.
-fn of_caches(line: Line, words: &[u32; 16500], record: &mut [u32; 1028]) {
+// new, record, feed, kept: two requests of a kept record, and map: pages in turn, and the words before the entries.
+fn of_caches(line: Line, words: &[u32; 16500], record: &mut [u32; WORDS]) {
     if line.verb == b'n' {
         caches::new(words, record);
     }
@@ -41,12 +42,15 @@ fn of_caches(line: Line, words: &[u32; 16500], record: &mut [u32; 1028]) {
     if line.verb == b'k' {
         caches::twice(words, record);
     }
+    if line.verb == b'm' {
+        caches::map(words, record);
+    }
 }
 
 fn run(script: &[u8]) {
     let mut line = script::begun();
     let mut words = [MARK; 16500];
-    let mut record = [MARK; 1028];
+    let mut record = [MARK; WORDS];
     for i in 0..script.len() {
         let byte = script[i];
         line = script::step(line, byte, &mut words);
