@@ -33,7 +33,7 @@ extern "C" {
 enum {
     HEDRAVOS_FRAMES = 256,        /* most frames of a cache */
     HEDRAVOS_REQUESTS = 8000,     /* most requests of a trace */
-    HEDRAVOS_RECORD_WORDS = 1028, /* words of a cache record */
+    HEDRAVOS_RECORD_WORDS = 1035, /* words of a cache record */
     HEDRAVOS_FILE_BYTES = 64020,  /* bytes of the largest bundle file */
     HEDRAVOS_REPORT_BYTES = 256   /* no report is longer */
 };
@@ -119,16 +119,22 @@ void hedravos_better_words(uint32_t m,
                            uint32_t *answer, size_t answer_length);
 
 /*
+ * A cache record is 1,035 words: rule, frames, clock; the map of occupied frames in words 3 to 10, where bit b of word
+ * 3 + k (bit 0 is worth 1) is that of frame 32 k + b; then page, loaded, last, earlier of frame i from word 11 + 4 i on.
+ * In a sound record exactly the lowest bits of the map are set; the reference shows how to read one.
+ */
+
+/*
  * Writes an empty cache record of rule 1, 2 or 4 with n frames; refused with 1 or 2, the blank record. Where `cache` has
- * fewer than 1,028 words it stays as it was.
- * answer: number, place. Refusals: 1, 2, 6 (fewer than 1,028 words).
+ * fewer than 1,035 words it stays as it was.
+ * answer: number, place. Refusals: 1, 2, 6 (fewer than 1,035 words).
  */
 void hedravos_fresh(uint32_t rule, uint32_t n,
                     uint32_t *cache, size_t cache_length,
                     uint32_t *answer, size_t answer_length);
 
 /*
- * Says whether a record is sound; one in fewer than 1,028 words isn't.
+ * Says whether a record is sound; one in fewer than 1,035 words isn't.
  * answer: 1 or 0.
  */
 void hedravos_sound(const uint32_t *cache, size_t cache_length,
@@ -136,9 +142,9 @@ void hedravos_sound(const uint32_t *cache, size_t cache_length,
 
 /*
  * Serves one request: takes a record and writes the next one into other words; where it refuses with 5, 4 or 8, the
- * record that it got. Where `cache` or `next` has fewer than 1,028 words, `next` stays as it was.
+ * record that it got. Where `cache` or `next` has fewer than 1,035 words, `next` stays as it was.
  * answer: number, place, kind, page dropped (the mark where none was).
- * Refusals: 5 (also fewer than 1,028 words), 4 (place 0), 8, 6 (`next` has fewer than 1,028).
+ * Refusals: 5 (also fewer than 1,035 words), 4 (place 0), 8, 6 (`next` has fewer than 1,035).
  */
 void hedravos_feed(const uint32_t *cache, size_t cache_length,
                    uint32_t page,
@@ -148,7 +154,7 @@ void hedravos_feed(const uint32_t *cache, size_t cache_length,
 /*
  * The same, with the record updated where it stands.
  * answer: number, place, kind, page dropped (the mark where none was).
- * Refusals: 5 (also fewer than 1,028 words), 4 (place 0), 8.
+ * Refusals: 5 (also fewer than 1,035 words), 4 (place 0), 8.
  */
 void hedravos_feed_own(uint32_t *cache, size_t cache_length,
                        uint32_t page,

@@ -41,11 +41,15 @@ def blocks(text):
     return re.findall(r"^```(\w*)\n(.*?)^```$", text, re.M | re.S)
 
 
-def table_under(heading):
-    """The rows of the first table under a heading of the reference, as cells."""
+def tables_under(heading):
+    """The tables under a heading of the reference: the rows of each, as cells."""
     part = REFERENCE.split(f"\n## {heading}\n")[1].split("\n## ")[0]
-    first = re.search(r"(^\|.*\n)+", part, re.M)[0]
-    return [[cell.strip() for cell in row.strip("|").split("|")] for row in first.splitlines()[2:]]
+    found = re.findall(r"(?:^\|.*\n)+", part, re.M)
+    return [[[cell.strip() for cell in row.strip("|").split("|")] for row in table.splitlines()[2:]] for table in found]
+
+
+def table_under(heading):
+    return tables_under(heading)[0]
 
 
 # ---- The header and the code ----
@@ -96,7 +100,7 @@ def the_header():
         case(f"the header's kind {name}", numbers.pop(name.upper(), None) == int(kind))
     limits = dict(re.findall(r"pub const (\w+): \w+ = (\d+);", code("calls/src/lib.rt")))
     frames, requests = int(limits["FRAMES"]), int(limits["REQUESTS"])
-    sizes = {"RECORD_WORDS": 4 + 4 * frames, "FILE_BYTES": 4 * (2 + 3 + 2 * requests), "REPORT_BYTES": 256}
+    sizes = {"RECORD_WORDS": 3 + frames // 32 + 4 * frames, "FILE_BYTES": 4 * (2 + 3 + 2 * requests), "REPORT_BYTES": 256}
     case("the header's limits, and nothing else", numbers == {"FRAMES": frames, "REQUESTS": requests} | sizes, str(numbers))
     case("the header's mark", f"HEDRAVOS_MARK UINT32_C({MARK})" in HEADER and f"MARK: u32 = {MARK};" in code("paging/src/lib.rt"))
 
@@ -205,7 +209,12 @@ def the_orders():
 
 def record(clock):
     """A sound record of LRU with one frame, which holds page 5."""
-    return [1, 1, clock, 1, 5, 0, 0, MARK] + [MARK] * (4 * 255)
+    return [1, 1, clock] + lowest(1) + [5, 0, 0, MARK] + [MARK] * (4 * 255)
+
+
+def lowest(held):
+    """The words of a map with so many of its lowest bits set."""
+    return [(2**held - 1) >> 32 * k & 0xFFFFFFFF for k in range(8)]
 
 
 def called(library, name, *arguments):
@@ -227,6 +236,77 @@ def planned(library, rule, n, requests):
     lists = [word for one in (trace, plan, answer) for word in (one, ctypes.c_size_t(len(one)))]
     library.hedravos_plan(ctypes.c_uint32(rule), ctypes.c_uint32(n), *lists)
     return answer[2], list(plan)
+
+
+# ---- The record and its dump ----
+
+
+def fed(library, rule, frames, pages):
+    """A record before its first request, and after each."""
+    record, answer = (ctypes.c_uint32 * constants()["RECORD_WORDS"])(), (ctypes.c_uint32 * 4)()
+    lent, told = (record, ctypes.c_size_t(len(record))), (answer, ctypes.c_size_t(4))
+    library.hedravos_fresh(ctypes.c_uint32(rule), ctypes.c_uint32(frames), *lent, *told)
+    yield list(record)
+    for page in pages:
+        library.hedravos_feed_own(*lent, ctypes.c_uint32(page), *told)
+        yield list(record)
+
+
+def span(text):
+    """The words that a row is about: '3', or '4 to 10'."""
+    ends = [int(word) for word in text.split(" to ")]
+    return list(range(ends[0], ends[-1] + 1))
+
+
+def in_hexadecimal(cell):
+    return [int(word, 16) for word in cell.strip("`").split()]
+
+
+def the_dump():
+    """The reference's dump, what it says of each word, and the maps beside it."""
+    library = ctypes.CDLL(str(LIBRARY / "libhedravos.so"))
+    _, places, meanings, shapes, damaged = tables_under("The cache record")
+    *_, words = fed(library, 1, 3, [5, 6])
+    shown = f"record: {' '.join(map(str, words[:23]))}\nmap: {' '.join(f'{word:08x}' for word in words[3:11])}\n"
+    dumps = [text for _, text in blocks(REFERENCE) if "record: " in text]
+    case("the dump", len(dumps) == 2 and dumps[0] == shown and dumps[1].endswith(shown), shown)
+    case("nothing but marks behind it", set(words[23:]) == {MARK})
+    case("a meaning for each word of it", sum((span(row[0]) for row in meanings), []) == list(range(23)))
+    for place, here, _ in meanings:
+        case(f"words {place} of the dump", [int(word) for word in here.split()] == [words[i] for i in span(place)])
+    case("where the parts of a record are", [row[0] for row in places] == ["0", "1", "2", "3 to 10", "11 + 4 i to 14 + 4 i"])
+    case("the dump is sound", called(library, "sound", words) == 1)
+    for cell, why in damaged:
+        wrong = words[:3] + in_hexadecimal(cell) + words[11:]
+        numbers = len(wrong) - len(words), called(library, "sound", wrong), called(library, "feed_own", wrong, 5)
+        case(f"damaged: {why}", wrong != words and numbers == (0, 0, 5), str(numbers))
+    ones = [sum(bin(word).count("1") for word in in_hexadecimal(cell)) for cell, _ in damaged]
+    case("the first six have two ones", ones == [2] * 6 + [1, 3])
+    the_shapes(list(fed(library, 4, 256, range(257))), shapes)
+    the_older(library, words)
+
+
+def the_shapes(records, shapes):
+    """The record of 256 frames after so many pages: its map, and where the last page stands."""
+    for held, record in enumerate(records[:257]):
+        case(f"the map of {held} frames", record[2:11] == [held] + lowest(held))
+        case(f"the page of frame {held - 1}", held == 0 or record[7 + 4 * held] == held - 1)
+    case("with all held the map stays", records[257][2:11] == [257] + lowest(256))
+    for cell, occupied, free in shapes:
+        held = int(occupied.split(":")[0])
+        case(f"the map of {occupied}", records[held][3:11] == in_hexadecimal(cell) and free == ("none" if held == 256 else str(held)))
+    case("maps with none and with all", [shapes[0][1], shapes[-1][2]] == ["0", "none"])
+
+
+def the_older(library, words):
+    """The same record in the older form, which has a number in place of the map."""
+    older = words[:3] + [2] + words[11:]
+    for form in (older, older + [MARK] * 7, older + [0] * 7):
+        case("an older record", called(library, "feed_own", form, 5) == 5)
+    case("an older record with a map in place", len(older) == 1028 and older[:3] + lowest(older[3]) + older[4:] == words)
+
+
+# ---- Commands and programs ----
 
 
 def the_lines():
@@ -315,4 +395,4 @@ def counts(program):
 
 if __name__ == "__main__":
     subprocess.run([str(ROOT / "tools/library")], check=True, stdout=subprocess.DEVNULL)
-    sys.exit(run(the_header, the_tables, the_orders, the_examples, the_lines, in_c))
+    sys.exit(run(the_header, the_tables, the_orders, the_examples, the_dump, the_lines, in_c))
