@@ -148,6 +148,8 @@ def the_tables():
     }.items():
         case(f"the reference's limit: {what}", told.pop(what, None) == limit)
     case("no other limit", not told)
+    lengths = set(re.findall(r"fewer than (\d+,\d+)", HEADER + REFERENCE))
+    case("a record's length wherever it is asked", lengths == {f"{is_so['RECORD_WORDS']:,}"}, str(lengths))
 
 
 def the_examples():
@@ -288,9 +290,10 @@ def the_dump():
 
 def the_shapes(records, shapes):
     """The record of 256 frames after so many pages: its map, and where the last page stands."""
-    for held, record in enumerate(records[:257]):
-        case(f"the map of {held} frames", record[2:11] == [held] + lowest(held))
-        case(f"the page of frame {held - 1}", held == 0 or record[7 + 4 * held] == held - 1)
+    wrong = [held for held in range(257) if records[held][2:11] != [held] + lowest(held)]
+    case("the map after each page", not wrong, str(wrong))
+    wrong = [frame for frame in range(256) if records[frame + 1][11 + 4 * frame] != frame]
+    case("each page in the lowest free frame", not wrong, str(wrong))
     case("with all held the map stays", records[257][2:11] == [257] + lowest(256))
     for cell, occupied, free in shapes:
         held = int(occupied.split(":")[0])
