@@ -1,6 +1,6 @@
 -- Feed: it keeps a record sound, drops a page that is unique, and feeding a trace from a fresh record gives the walk.
 --
--- In order: Feed where nothing is refused; soundness; the page dropped; feeding a trace.
+-- In order: Feed where nothing is refused, and of a record that is not sound; one request; soundness; the page dropped; feeding a trace.
 -- Assumes nothing.
 use mathlib.Core.Path.{_≡_, refl, sym, ap, ap₂, _∙_, subst}
 use mathlib.Core.Bool.{Bool, true, false}
@@ -12,12 +12,13 @@ use lib.Dec.{eqb}
 use lib.ListN.{length, take, replicate, length-append, length-replicate}
 use lib.Seq.{take-append-seam}
 use borrow.Author.Tests.{ne-eqb, eqb-false}
-use Rattle.paging.specs.Lists.{pick, any}
+use Rattle.paging.specs.Lists.{pick, both, any}
 use Rattle.paging.specs.Rules.{mark, between, noRequests, ruleNumbered, named, drops}
 use Rattle.paging.specs.Walk.{entryAt, next, outcomes, faultsIn, planIn, faults, plan}
 use Rattle.paging.specs.Calls.{frameLimit, requestLimit, marked}
 use Rattle.paging.specs.declared.Entry.{Entry}
 use Rattle.paging.specs.declared.Gate.the-variants.{Open}
+use Rattle.paging.specs.declared.Refusal.the-variants.{UnsoundRecord}
 use Rattle.paging.specs.declared.Rule.the-variants.{Min}
 use Rattle.paging.specs.declared.Outcome.{Outcome}
 use Rattle.paging.specs.declared.Outcome.the-variants as O
@@ -25,12 +26,14 @@ use Rattle.paging.proofs.Lists.{false≢true}
 use Rattle.paging.proofs.Frames.{next-size}
 use Rattle.paging.proofs.Sight.{outcomes-past, outcome-blind, next-blind}
 use Rattle.entries.specs.Blank.{blankEntry}
+use Rattle.occupancy.specs.Map.{lowestOnly}
 use Rattle.occupancy.proofs.Lowest.{map-ones, map-words}
-use Rattle.soundness.specs.Sound.{feedable}
+use Rattle.soundness.specs.Sound.{feedable, soundParts}
 use Rattle.soundness.proofs.Orderly.{drops-one}
 use Rattle.cache.specs.declared.Cache.{Cache}
 use Rattle.cache.specs.declared.Served.{Served}
 use Rattle.cache.specs.declared.Reply.{Reply}
+use Rattle.cache.specs.declared.Reply.the-variants.{Refused}
 use Rattle.cache.specs.declared.Fed.{Fed}
 use Rattle.cache.specs.Record.{emptyCache, heldOf, heldEntries, padded, ruleOf, Formed, freshOf}
 use Rattle.cache.specs.Sound.{sound, Sound}
@@ -46,6 +49,19 @@ pub fed-open : (c : Cache) (p : ℕ) → sound c ≡ true → (p ≡ mark → �
     → _≡_ {A = Fed} (fed c p) (record { outcome = replyOf (served c p .outcome); next = served c p .next })
 unfolding fed
 fed-open c p s page clock = rw (s, ne-eqb p mark page, ne-eqb (c .clock) requestLimit clock)
+
+-- ---- a record that is not sound is refused with 5 and handed back; so is every map with a gap or a stray bit
+
+pub unsound-refused : (c : Cache) (p : ℕ) → sound c ≡ false → _≡_ {A = Fed} (fed c p) (record { outcome = Refused UnsoundRecord; next = c })
+unfolding fed
+unsound-refused c p s = rw s
+
+pub stray-refused : (c : Cache) (p : ℕ) → lowestOnly (c .map) ≡ false → _≡_ {A = Fed} (fed c p) (record { outcome = Refused UnsoundRecord; next = c })
+unfolding sound
+stray-refused c p l =
+    unsound-refused c p (ap (λ (b : Bool). both b (soundParts (c .rule) (c .frames) (c .clock) (heldOf c) (c .entries))) l)
+
+-- ---- one request
 
 -- the entries in use after a request are those of the walk, and the record has its form
 module _ (c : Cache) (p : ℕ) (formed : Formed c) (s : Sound c) where

@@ -23,8 +23,8 @@ use Rattle.paging.specs.declared.Refusal.the-variants.{UnknownRule, FramesOutsi
 use Rattle.paging.proofs.Lists.{both-first, both-second, both-true}
 use Rattle.paging.proofs.Held.{apart-nil}
 use Rattle.entries.specs.Blank.{blankEntry}
-use Rattle.occupancy.specs.Map.{mapWords, onesOf, lowestOnly, mapOf, Words}
-use Rattle.occupancy.proofs.Lowest.{map-none, map-ones, map-lowest, map-words, lowest-map}
+use Rattle.occupancy.specs.Map.{mapWords, onesOf, lowestZero, lowestOnly, mapOf, Words}
+use Rattle.occupancy.proofs.Lowest.{map-none, map-ones, map-zero, map-lowest, map-words, lowest-map, lowest-means, means-lowest}
 use Rattle.soundness.specs.Sound.{feedable, allMarks, blankFrom, Orderly, soundParts, SoundParts}
 use Rattle.soundness.proofs.Meaning.{of-not, inside, is-outside, met-means, means-met}
 use Rattle.cache.specs.declared.Cache.{Cache}
@@ -39,13 +39,13 @@ unfolding sound
 sound-is c e =
     let others : Bool = soundParts (c .rule) (c .frames) (c .clock) (heldOf c) (c .entries) in
     record {
-      lowest = both-first (lowestOnly (c .map)) others e;
+      lowest = lowest-means (c .map) (both-first (lowestOnly (c .map)) others e);
       parts = met-means (c .rule) (c .frames) (c .clock) (heldOf c) (c .entries) (both-second (lowestOnly (c .map)) others e);
     }
 
 pub is-sound : (c : Cache) → Sound c → sound c ≡ true
 unfolding sound
-is-sound c s = both-true _ _ (s .lowest) (means-met (c .rule) (c .frames) (c .clock) (heldOf c) (c .entries) (s .parts))
+is-sound c s = both-true _ _ (means-lowest (c .map) (s .lowest)) (means-met (c .rule) (c .frames) (c .clock) (heldOf c) (c .entries) (s .parts))
 
 -- ---- the entries of a sound record
 
@@ -100,7 +100,13 @@ module _ (c : Cache) (formed : Formed c) (s : Sound c) where
 
   -- the map of the lowest frames, as many as are in use
   pub map-held : mapOf (heldOf c) ≡ c .map
-  map-held = lowest-map (c .map) (formed .map-words) (s .lowest)
+  map-held = lowest-map (c .map) (formed .map-words) (means-lowest (c .map) (s .lowest))
+
+  -- THE NEXT FREE FRAME: while fewer than all frames are held it is the lowest zero bit, which is the frame past those in use
+  pub next-free : heldOf c < c .frames → (lowestZero (c .map) ≡ heldOf c) × (lowestZero (c .map) < c .frames)
+  next-free h =
+      let e : lowestZero (c .map) ≡ heldOf c = ap lowestZero (sym map-held) ∙ map-zero (heldOf c) (omega (arith, s .parts .frames-most)) in
+      (e, omega arith)
 
 -- ---- records that are sound
 
@@ -110,7 +116,7 @@ pub holding-sound : (c : Cache) (es : List Entry) → Sound c → c .clock < req
 holding-sound c es s h k l o =
     let most : length es ≤ frameLimit = omega (arith, s .parts .frames-most) in
     record {
-      lowest = map-lowest (length es) most;
+      lowest = lowest-means (mapOf (length es)) (map-lowest (length es) most);
       parts =
           subst (λ (held : ℕ). SoundParts (c .rule) (c .frames) (c .clock + 1) held (padded es)) (sym (map-ones (length es) most))
           (record {
@@ -138,7 +144,7 @@ empty-held rule frames = ap (λ (k : ℕ). take k (replicate frameLimit blankEnt
 pub empty-sound : (rule frames : ℕ) → feedable rule ≡ true → 1 ≤ frames → frames ≤ frameLimit → Sound (emptyCache rule frames)
 empty-sound rule frames f h k =
     record {
-      lowest = subst (λ (m : List ℕ). lowestOnly m ≡ true) map-none (map-lowest 0 (omega arith));
+      lowest = lowest-means (replicate mapWords 0) (subst (λ (m : List ℕ). lowestOnly m ≡ true) map-none (map-lowest 0 (omega arith)));
       parts =
           subst (λ (held : ℕ). SoundParts rule frames 0 held (replicate frameLimit blankEntry)) (sym none-held)
           (record {

@@ -24,7 +24,7 @@ use Rattle.paging.proofs.Frames.{Ways, ways, held-frame, outcome-hit, outcome-r
 use Rattle.entries.specs.Blank.{blankEntry}
 use Rattle.entries.specs.Devices.Search.{leastFrame}
 use Rattle.occupancy.specs.Map.{lowestZero, mapOf, withFrame}
-use Rattle.occupancy.proofs.Lowest.{map-zero, map-next}
+use Rattle.occupancy.proofs.Lowest.{map-next}
 use Rattle.soundness.proofs.Orderly.{next-orderly}
 use Rattle.steps.specs.Devices.Step.{stepped}
 use Rattle.cache.specs.declared.Cache.{Cache}
@@ -34,7 +34,7 @@ use Rattle.cache.specs.Sound.{Sound}
 use Rattle.cache.specs.Feed.{served}
 use Rattle.cache.specs.Devices.Step.{stepOn, onward}
 use Rattle.cache.proofs.Least.{least-chosen}
-use Rattle.cache.proofs.Soundness.{held-length, entries-padded, map-held, holding-sound}
+use Rattle.cache.proofs.Soundness.{held-length, entries-padded, map-held, next-free, holding-sound}
 
 -- an entry in use, read from the array
 pub entry-held : (c : Cache) (i : ℕ) → i < heldOf c → entryAt (heldEntries c) i ≡ entryAt (c .entries) i
@@ -158,7 +158,7 @@ module _ (c : Cache) (formed : Formed c) (s : Sound c) (o : Outcome) (f : ℕ) (
   map-grows h =
       let most : heldOf c < frameLimit = omega (arith, s .parts .frames-most) in
       let own : mapOf (heldOf c) ≡ c .map = map-held c formed s in
-      let free : lowestZero (c .map) ≡ heldOf c = ap lowestZero (sym own) ∙ map-zero (heldOf c) (omega arith) in
+      let free : lowestZero (c .map) ≡ heldOf c = next-free c formed s h .0 in
       let more : withFrame (c .map) (heldOf c) ≡ mapOf (heldOf c + 1) =
       ap (λ (m : List ℕ). withFrame m (heldOf c)) (sym own) ∙ map-next (heldOf c) most ∙ ap mapOf (sym (add-one (heldOf c))) in
       ap (λ (k : ℕ). written-as (withFrame (c .map) k) k) free ∙ ap (λ (m : List ℕ). written-as m (heldOf c)) more

@@ -1,6 +1,6 @@
 -- Document 01, "Cache record" and the service Fresh.
 --
--- A record is a state of the walk with its list of entries padded to 256 by blank ones.
+-- A record is a state of the walk with its list of entries padded to 256 by blank ones, and a map of the frames that these entries occupy.
 -- Assumes nothing.
 use mathlib.Core.List.{List, [], _∷_, _++_}
 use mathlib.Core.Path.{_≡_}
@@ -33,7 +33,7 @@ blankCache = emptyCache 0 0
 
 -- ---- what a record holds
 
--- how many entries are in use, which is the number of ones of the map; every definition asks it here
+-- how many entries are in use, which is the number of ones of the map; every definition that speaks of a record asks it here
 abbrev pub heldOf : Cache → ℕ
 heldOf c = onesOf (c .map)
 

@@ -118,14 +118,9 @@ impl Cache {
         if !occupancy::lowest_only(map) {
             return false;
         }
+        let held = occupancy::held(map);
         let entries = self.entries;
-        soundness::sound_parts(
-            self.rule,
-            self.frames,
-            self.clock,
-            occupancy::held(map),
-            entries,
-        )
+        soundness::sound_parts(self.rule, self.frames, self.clock, held, entries)
     }
 
     // One request of a sound record.

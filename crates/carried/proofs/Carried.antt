@@ -6,22 +6,20 @@ use mathlib.Core.Path.{_≡_, refl, sym, ap, ap₂, _∙_, subst}
 use mathlib.Core.Logic.{_↔_}
 use mathlib.Core.Bool.{Bool, true, false}
 use mathlib.Core.List.{List, [], _∷_}
-use Prim.Native.Nat.{ℕ, _≤_, _<_}
+use Prim.Native.Nat.{ℕ, _<_}
 use native.Mathlib.Omega.{arith}
-use lib.Dec.{eqb}
-use lib.ListN.{length, take, length-take}
-use Rattle.paging.specs.Lists.{pick, not, both}
+use lib.ListN.{length, take, drop, length-take}
+use Rattle.paging.specs.Lists.{not, both}
 use Rattle.paging.specs.Refusals.{gateNumbers}
-use Rattle.paging.specs.Rules.{mark, noRequests}
+use Rattle.paging.specs.Rules.{noRequests}
 use Rattle.paging.specs.Walk.{outcome, next}
-use Rattle.paging.specs.Calls.{frameLimit, requestLimit, Test, test, gate}
+use Rattle.paging.specs.Calls.{frameLimit, Test, test, gate}
 use Rattle.paging.specs.declared.Entry.{Entry}
 use Rattle.paging.specs.declared.Gate.{Gate}
 use Rattle.paging.specs.declared.Gate.the-variants.{Open, No}
-use Rattle.paging.specs.declared.Refusal.the-variants.{UnsoundRecord, MarkRequested, ClockFull}
-use Rattle.paging.proofs.Lists.{false≢true, bool-cases}
+use Rattle.paging.specs.declared.Refusal.the-variants.{UnsoundRecord}
 use Rattle.paging.proofs.Frames.{next-size}
-use Rattle.occupancy.specs.Map.{onesOf, lowestOnly, mapOf, Words}
+use Rattle.occupancy.specs.Map.{lowestOnly, Words}
 use Rattle.occupancy.proofs.Lowest.{map-none, map-ones, map-lowest, map-words, ones-all, lowest-map}
 use Rattle.soundness.specs.Sound.{soundParts, SoundParts}
 use Rattle.soundness.proofs.Meaning.{met-means}
@@ -30,10 +28,10 @@ use Rattle.cache.specs.declared.Fresh.{Fresh}
 use Rattle.cache.specs.declared.Fed.{Fed}
 use Rattle.cache.specs.declared.Reply.{Reply}
 use Rattle.cache.specs.declared.Reply.the-variants.{Refused}
-use Rattle.cache.specs.Record.{blankCache, heldOf, ruleOf, holding, freshTests, freshBy, freshOf}
+use Rattle.cache.specs.Record.{blankCache, heldOf, holding, Formed, freshTests, freshBy, freshOf}
 use Rattle.cache.specs.Sound.{sound}
 use Rattle.cache.specs.Feed.{served, replyOf, feedTests, fedBy, fed, feeding, replyNumbers}
-use Rattle.carried.specs.Old.{OldCache, OldFresh, OldFed, oldEmpty, oldBlank, oldSound, oldFreshBy, oldFresh, oldEntries, oldRule, oldServed, oldTests, oldFedBy, oldFed, oldFeeding, oldAfter}
+use Rattle.carried.specs.Old.{OldCache, OldFed, oldEmpty, oldBlank, oldSound, oldFreshBy, oldFresh, oldEntries, oldRule, oldServed, oldTests, oldFedBy, oldFed, oldFeeding, oldAfter}
 use Rattle.carried.specs.Carried.{Mapped, carried, carriedFrom, carriedFresh, carriedFed, after}
 
 -- ---- each old record and its new one
@@ -50,7 +48,11 @@ module _ (c : OldCache) (m : Mapped c) where
   pub held-stays : heldOf (carried c) ≡ c .held
   held-stays = map-ones (c .held) m
 
-  -- so different old records have different new ones
+  -- it has a record's form
+  pub new-formed : length (c .entries) ≡ frameLimit → Formed (carried c)
+  new-formed size = record { all-entries = size; map-words = map-words (c .held) }
+
+  -- different old records have different new ones
   pub back-again : carriedFrom (carried c) ≡ c
   back-again = ap renumbered held-stays
     where
@@ -113,8 +115,7 @@ fresh-stays rule n = go (gate (freshTests rule n))
 
 -- the tests, by whether the record is sound
 abbrev testsBy : OldCache → ℕ → Bool → List Test
-testsBy c p sound =
-    test (not sound) UnsoundRecord ∷ test (eqb p mark) (MarkRequested 0) ∷ test (eqb (c .clock) requestLimit) ClockFull ∷ []
+testsBy c p sound = test (not sound) UnsoundRecord ∷ drop 1 (oldTests c p)
 
 module _ (c : OldCache) (m : Mapped c) (p : ℕ) where
   held-entries : take (heldOf (carried c)) (c .entries) ≡ oldEntries c
@@ -178,17 +179,19 @@ feeding-stays (p ∷ ps) c m =
       few,
     )
 
--- FROM FRESH ON: whatever was asked for, and whatever is requested then
+-- FROM FRESH ON: whatever was asked for, and whatever is requested then; no old record with a number beyond the map is reached
 pub from-fresh : (rule n : ℕ) (ps : List ℕ)
     → (gateNumbers (freshOf rule n .gate) ≡ gateNumbers (oldFresh rule n .gate))
     × (feeding (freshOf rule n .cache) ps ≡ oldFeeding (oldFresh rule n .cache) ps)
     × (after (freshOf rule n .cache) ps ≡ carried (oldAfter (oldFresh rule n .cache) ps))
+    × Mapped (oldAfter (oldFresh rule n .cache) ps)
 from-fresh rule n ps =
     let e : freshOf rule n ≡ carriedFresh (oldFresh rule n) = fresh-stays rule n in
     let (replies, record-after, few) = feeding-stays ps (oldFresh rule n .cache) mapped in (
       ap (λ (f : Fresh). gateNumbers (f .gate)) e,
       ap (λ (f : Fresh). feeding (f .cache) ps) e ∙ replies,
       ap (λ (f : Fresh). after (f .cache) ps) e ∙ record-after,
+      few,
     )
   where
     mapped : Mapped (oldFresh rule n .cache)
@@ -198,7 +201,7 @@ from-fresh rule n ps =
         go Open = omega arith
         go (No refusal) = omega arith
 
--- ---- NUMBERS BEYOND THE MAP: such an old record was not sound, so Feed refused it and handed it back; no new record says such a number
+-- ---- NUMBERS BEYOND THE MAP: such an old record was not sound, so Feed refused it and handed it back; no map has such a number of ones (`ones-all` of crate `occupancy`)
 
 pub beyond-refused : (c : OldCache) (p : ℕ) → frameLimit < c .held → (oldSound c ≡ false) × (_≡_ {A = OldFed} (oldFed c p) (record { outcome = Refused UnsoundRecord; next = c }))
 unfolding oldFed
@@ -211,9 +214,6 @@ beyond-refused c p h =
     not-sound true s =
         let parts : SoundParts (c .rule) (c .frames) (c .clock) (c .held) (c .entries) = met-means (c .rule) (c .frames) (c .clock) (c .held) (c .entries) s in
         absurd (omega (arith, parts .held-frames, parts .frames-most))
-
-pub beyond-unsaid : (d : Cache) → Words (d .map) → heldOf d ≤ frameLimit
-beyond-unsaid d w = ones-all (d .map) w
 
 -- ---- the same of the answers: what Feed says of a carried record, in numbers, and the old record of the one it hands back
 

@@ -2,25 +2,22 @@
 --
 -- In order: bits and words, there and back; which bit is a frame's; the number of ones; the lowest zero bit.
 -- Assumes nothing.
-use mathlib.Core.Path.{_≡_, refl, sym, ap, ap₂, _∙_, subst}
-use mathlib.Core.Logic.{_⊎_, inl, inr, ⊎-elim}
+use mathlib.Core.Path.{_≡_, refl, sym, ap, ap₂, _∙_}
 use mathlib.Core.Bool.{Bool, true, false}
-use mathlib.Core.List.{List, [], _∷_, _++_, append-assoc}
+use mathlib.Core.List.{List, [], _∷_, _++_}
 use Prim.Native.Nat.{ℕ, zero, suc, _+_, _-_, _*_, _/_, _%_, _^_, _≤_, _<_, max}
 use native.Mathlib.Nat.{pow-suc}
-use native.Mathlib.Numerals.{add-one}
 use native.Mathlib.Omega.{arith}
-use lib.Dec.{eqb, ltb}
-use lib.Bits.{bitOr, or-step, or-zero-r, or-lt}
-use lib.Pow.{pow-pos, pow-lt, pow-mono, shr-shr}
+use lib.Dec.{eqb}
+use lib.Bits.{bitOr, or-step, or-zero-r}
+use lib.Pow.{pow-mono, shr-shr}
 use lib.Count.{ones, ones-step, trailingZeros, under}
-use lib.ListN.{length, getD, take, drop, set, replicate, length-append, length-replicate, length-set, length-take, length-drop, take-append-drop, drop-of-length-le, List·getD-append}
+use lib.ListN.{length, getD, take, drop, set, length-append, length-take, length-drop, take-append-drop, drop-of-length-le, List·getD-append}
 use lib.Seq.{length-take-le, take-append-seam, drop-append-seam, set-append-left, getD-append-add, drop-cons}
-use borrow.Author.Tests.{eqb-true, eqb-false, ltb-true, ltb-false, eq-eqb, ne-eqb, lt-ltb, le-ltb}
-use Rattle.paging.specs.Lists.{pick, not, all, indexOf}
+use borrow.Author.Tests.{eqb-true, eqb-false, eq-eqb, ne-eqb}
+use Rattle.paging.specs.Lists.{pick, not, indexOf}
 use Rattle.paging.specs.Calls.{frameLimit}
-use Rattle.paging.proofs.Lists.{false≢true, true≢false}
-use Rattle.occupancy.specs.Map.{wordBits, mapWords, bitsIn, bitsOf, digit, onesIn, onesOf, lowestZero, noneFrom, lowestOnly, wordOf, wordsOf, lowestBits, mapOf, withFrame, Words}
+use Rattle.occupancy.specs.Map.{wordBits, mapWords, bitsIn, bitsOf, digit, onesIn, onesOf, lowestZero, wordOf, wordsOf, Small, Words}
 
 -- ---- bits and words, there and back
 
@@ -64,10 +61,6 @@ bits-back (b ∷ bits) = ap₂ (λ (x : Bool) (xs : List Bool). x ∷ xs) (low b
     rest : (b : Bool) → (digit b + 2 * wordOf bits) / 2 ≡ wordOf bits
     rest true = omega arith
     rest false = omega arith
-
--- every word of the list has 64 bits
-abbrev pub Small : List ℕ → Type 0
-Small map = (i : ℕ) → i < length map → getD map i 0 < 2 ^ wordBits
 
 small-rest : (w : ℕ) (ws : List ℕ) → Small (w ∷ ws) → Small ws
 small-rest w ws s i h = s (suc i) (omega arith)
@@ -179,10 +172,12 @@ or-map (w ∷ ws) (suc q) b h =
     ∙ sym (set-behind (bitsIn wordBits w) (bitsOf ws) (wordBits * q + b))
     ∙ ap (λ (i : ℕ). set (bitsIn wordBits w ++ bitsOf ws) i true) (let e : length (bitsIn wordBits w) + (wordBits * q + b) ≡ wordBits * suc q + b = omega (arith, bits-length wordBits w) in e)
 
--- THE MAP WITH ONE FRAME MORE has that frame's bit set and every other as it was
-pub frame-bit : (map : List ℕ) (f : ℕ) → bitsOf (withFrame map f) ≡ set (bitsOf map) f true
-unfolding withFrame
-frame-bit map f =
+-- as the code sets it: in the word and at the place of the frame
+abbrev pub orFrame : List ℕ → ℕ → List ℕ
+orFrame map f = set map (f / wordBits) (bitOr (getD map (f / wordBits) 0) (2 ^ (f % wordBits)))
+
+pub or-frame : (map : List ℕ) (f : ℕ) → bitsOf (orFrame map f) ≡ set (bitsOf map) f true
+or-frame map f =
     or-map map (f / wordBits) (f % wordBits) (omega arith)
     ∙ ap (λ (i : ℕ). set (bitsOf map) i true) (let e : wordBits * (f / wordBits) + f % wordBits ≡ f = omega arith in e)
 

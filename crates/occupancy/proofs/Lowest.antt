@@ -12,13 +12,13 @@ use lib.Dec.{eqb, ltb}
 use lib.Bits.{bitOr, or-lt}
 use lib.Pow.{pow-lt}
 use lib.ListN.{length, getD, drop, set, replicate, length-append, length-replicate, length-set}
-use lib.Seq.{set-at, ext-getD}
+use lib.Seq.{set-at, getD-drop}
 use borrow.Author.Tests.{eqb-true, eqb-false, ltb-true, ltb-false, lt-ltb, le-ltb}
 use Rattle.paging.specs.Lists.{not, all, indexOf}
 use Rattle.paging.specs.Calls.{frameLimit}
-use Rattle.paging.proofs.Lists.{false≢true, true≢false, index-passes, index-first, set-cases}
-use Rattle.occupancy.specs.Map.{wordBits, mapWords, bitsOf, onesIn, onesOf, lowestZero, noneFrom, lowestOnly, wordsOf, lowestBits, mapOf, withFrame, Words}
-use Rattle.occupancy.proofs.Bits.{Small, map-length, map-back, words-length, words-small, words-back, frame-bit}
+use Rattle.paging.proofs.Lists.{false≢true, true≢false, index-passes, index-first, at-all, set-cases}
+use Rattle.occupancy.specs.Map.{wordBits, mapWords, bitsOf, onesIn, onesOf, lowestZero, noneFrom, lowestOnly, wordsOf, lowestBits, mapOf, withFrame, Small, Words}
+use Rattle.occupancy.proofs.Bits.{map-length, map-back, words-length, words-small, words-back, orFrame, or-frame}
 
 -- ---- ones, then zeros
 
@@ -192,67 +192,70 @@ ones-next : (h : ℕ) (bits : List Bool) → replicate h true ++ true ∷ bits �
 ones-next zero bits = refl
 ones-next (suc h) bits = ap (λ (xs : List Bool). true ∷ xs) (ones-next h bits)
 
-pub with-words : (map : List ℕ) (f : ℕ) → Words map → Words (withFrame map f)
-unfolding withFrame
-with-words map f w = record { four = length-set map (f / wordBits) _ ∙ w .four; small = below }
-  where
-    word : ℕ
-    word = bitOr (getD map (f / wordBits) 0) (2 ^ (f % wordBits))
-
-    below : Small (set map (f / wordBits) word)
-    below i h =
-        ⊎-elim
-        (λ s. let k : f / wordBits < length map = omega (arith, length-set map (f / wordBits) word, s .0) in rw (s .1) (or-lt wordBits _ _ (w .small (f / wordBits) k) (pow-lt {i = f % wordBits} {j = wordBits} (omega arith))))
-        (λ s. rw (s .2) (w .small i (s .1)))
-        (set-cases 0 map (f / wordBits) word i h)
-
 -- THE MAP OF ONE FRAME MORE: the next free frame's bit is set
 pub map-next : (h : ℕ) → h < frameLimit → withFrame (mapOf h) h ≡ mapOf (suc h)
+unfolding withFrame
 map-next h m =
-    sym (told (withFrame (mapOf h) h) (with-words (mapOf h) h (map-words h)) (lowestBits (suc h)) bits)
+    ap (wordsOf mapWords)
+    (ap (λ (bits : List Bool). set bits h true) (map-bits h (omega arith) ∙ ap (run h) (let left : frameLimit - h ≡ suc (frameLimit - suc h) = omega arith in left))
+    ∙ set-at (replicate h true) false (replicate (frameLimit - suc h) false) true h (length-replicate h true)
+    ∙ ones-next h (replicate (frameLimit - suc h) false))
     ∙ (unfold mapOf in refl)
-  where
-    left : frameLimit - h ≡ suc (frameLimit - suc h)
-    left = omega arith
 
-    bits : bitsOf (withFrame (mapOf h) h) ≡ lowestBits (suc h)
-    bits =
-        frame-bit (mapOf h) h
-        ∙ ap (λ (xs : List Bool). set xs h true) (map-bits h (omega arith) ∙ ap (run h) left)
-        ∙ set-at (replicate h true) false (replicate (frameLimit - suc h) false) true h (length-replicate h true)
-        ∙ ones-next h (replicate (frameLimit - suc h) false)
+module _ (map : List ℕ) (w : Words map) (f : ℕ) where
+  -- that frame's bit is set, and every other is as it was
+  pub frame-bit : bitsOf (withFrame map f) ≡ set (bitsOf map) f true
+  unfolding withFrame
+  frame-bit =
+      words-back mapWords (set (bitsOf map) f true)
+      (length-set (bitsOf map) f true ∙ bits-all map w ∙ (let e : frameLimit ≡ wordBits * mapWords = refl in e))
+
+  or-words : Words (orFrame map f)
+  or-words = record { four = length-set map (f / wordBits) _ ∙ w .four; small = below }
+    where
+      word : ℕ
+      word = bitOr (getD map (f / wordBits) 0) (2 ^ (f % wordBits))
+
+      below : Small (set map (f / wordBits) word)
+      below i h =
+          ⊎-elim
+          (λ s. let k : f / wordBits < length map = omega (arith, length-set map (f / wordBits) word, s .0) in rw (s .1) (or-lt wordBits _ _ (w .small (f / wordBits) k) (pow-lt {i = f % wordBits} {j = wordBits} (omega arith))))
+          (λ s. rw (s .2) (w .small i (s .1)))
+          (set-cases 0 map (f / wordBits) word i h)
+
+  -- which is what the code does
+  pub frame-or : withFrame map f ≡ orFrame map f
+  unfolding withFrame
+  frame-or = told (orFrame map f) or-words (set (bitsOf map) f true) (or-frame map f)
 
 -- ---- what it means, bit by bit
 
-module _ (map : List ℕ) (w : Words map) where
-  -- exactly the frames below the number of ones have their bit set
-  pub lowest-means : lowestOnly map ≡ true → (i : ℕ) → getD (bitsOf map) i false ≡ ltb i (onesOf map)
-  unfolding lowestOnly onesOf
-  lowest-means a i =
-      ap (λ (bits : List Bool). getD bits i false) (lowest-run (bitsOf map) a)
-      ∙ bit-run (onesIn (bitsOf map)) (length (bitsOf map) - onesIn (bitsOf map)) i
+-- exactly the frames below the number of ones have their bit set
+pub lowest-means : (map : List ℕ) → lowestOnly map ≡ true → (i : ℕ) → getD (bitsOf map) i false ≡ ltb i (onesOf map)
+unfolding lowestOnly onesOf
+lowest-means map a i =
+    ap (λ (bits : List Bool). getD bits i false) (lowest-run (bitsOf map) a)
+    ∙ bit-run (onesIn (bitsOf map)) (length (bitsOf map) - onesIn (bitsOf map)) i
 
-  pub means-lowest : ((i : ℕ) → i < frameLimit → getD (bitsOf map) i false ≡ ltb i (onesOf map)) → lowestOnly map ≡ true
-  means-lowest each =
-      let o : ℕ = onesOf map in
-      let same : bitsOf map ≡ lowestBits o =
-      ext-getD false (bitsOf map) (lowestBits o)
-      (let e : length (bitsOf map) ≡ length (lowestBits o) = omega (arith, bits-all map w, ones-all map w, length-run o (frameLimit - o)) in e)
-      (λ i h. each i (omega (arith, bits-all map w)) ∙ sym (bit-run o (frameLimit - o) i)) in
-      ap lowestOnly (sym (told map w (lowestBits o) same)) ∙ (unfold mapOf in map-lowest o (ones-all map w))
+pub means-lowest : (map : List ℕ) → ((i : ℕ) → getD (bitsOf map) i false ≡ ltb i (onesOf map)) → lowestOnly map ≡ true
+unfolding lowestOnly onesOf noneFrom
+means-lowest map each =
+    let o : ℕ = onesIn (bitsOf map) in
+    at-all not false (drop o (bitsOf map))
+    (λ j h. ap not (getD-drop o (bitsOf map) j false ∙ each (o + j) ∙ le-ltb (o + j) o (omega arith)))
 
-  -- the lowest zero bit is zero, and every lower one is set
-  pub zero-means : (lowestZero map < frameLimit → getD (bitsOf map) (lowestZero map) false ≡ false) × ((i : ℕ) → i < lowestZero map → getD (bitsOf map) i false ≡ true)
-  unfolding lowestZero
-  zero-means = (
-    λ h. clear _ (index-passes not false (bitsOf map) (omega (arith, bits-all map w))),
-    λ i h. set-bit (getD (bitsOf map) i false) (index-first not false (bitsOf map) i h),
-  )
-    where
-      clear : (b : Bool) → not b ≡ true → b ≡ false
-      clear true e = absurd (false≢true e)
-      clear false e = refl
+-- the lowest zero bit is zero, and every lower one is set
+pub zero-means : (map : List ℕ) → Words map → (lowestZero map < frameLimit → getD (bitsOf map) (lowestZero map) false ≡ false) × ((i : ℕ) → i < lowestZero map → getD (bitsOf map) i false ≡ true)
+unfolding lowestZero
+zero-means map w = (
+  λ h. clear _ (index-passes not false (bitsOf map) (omega (arith, bits-all map w))),
+  λ i h. set-bit (getD (bitsOf map) i false) (index-first not false (bitsOf map) i h),
+)
+  where
+    clear : (b : Bool) → not b ≡ true → b ≡ false
+    clear true e = absurd (false≢true e)
+    clear false e = refl
 
-      set-bit : (b : Bool) → (not b ≡ true → ⊥) → b ≡ true
-      set-bit true f = refl
-      set-bit false f = absurd (f refl)
+    set-bit : (b : Bool) → (not b ≡ true → ⊥) → b ≡ true
+    set-bit true f = refl
+    set-bit false f = absurd (f refl)

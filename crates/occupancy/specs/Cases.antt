@@ -13,8 +13,8 @@ full = 18446744073709551615
 abbrev top : ℕ
 top = 9223372036854775808
 
-abbrev all : List ℕ
-all = full ∷ full ∷ full ∷ full ∷ []
+abbrev everyFrame : List ℕ
+everyFrame = full ∷ full ∷ full ∷ full ∷ []
 
 -- the map of the lowest frames: of none, three, a word's, one more, three words', all
 pub map-clause : (mapOf 0 ≡ 0 ∷ 0 ∷ 0 ∷ 0 ∷ [])
@@ -22,12 +22,12 @@ pub map-clause : (mapOf 0 ≡ 0 ∷ 0 ∷ 0 ∷ 0 ∷ [])
     × (mapOf 64 ≡ full ∷ 0 ∷ 0 ∷ 0 ∷ [])
     × (mapOf 65 ≡ full ∷ 1 ∷ 0 ∷ 0 ∷ [])
     × (mapOf 192 ≡ full ∷ full ∷ full ∷ 0 ∷ [])
-    × (mapOf 256 ≡ all)
+    × (mapOf 256 ≡ everyFrame)
 unfolding mapOf
 map-clause = (refl, refl, refl, refl, refl, refl)
 
 -- the ones of every word are counted
-pub ones-clause : (onesOf (1 ∷ 3 ∷ 7 ∷ 15 ∷ []) ≡ 10) × (onesOf all ≡ 256)
+pub ones-clause : (onesOf (1 ∷ 3 ∷ 7 ∷ 15 ∷ []) ≡ 10) × (onesOf everyFrame ≡ 256)
 unfolding onesOf
 ones-clause = (refl, refl)
 
@@ -35,11 +35,11 @@ ones-clause = (refl, refl)
 pub zero-clause : (lowestZero (11 ∷ 0 ∷ 0 ∷ 0 ∷ []) ≡ 2)
     × (lowestZero (0 ∷ 0 ∷ 0 ∷ 0 ∷ []) ≡ 0)
     × (lowestZero (full ∷ full ∷ 0 ∷ 0 ∷ []) ≡ 128)
-    × (lowestZero all ≡ 256)
+    × (lowestZero everyFrame ≡ 256)
 unfolding lowestZero
 zero-clause = (refl, refl, refl, refl)
 
-pub lowest-clause : (lowestOnly (7 ∷ 0 ∷ 0 ∷ 0 ∷ []) ≡ true) × (lowestOnly (full ∷ 1 ∷ 0 ∷ 0 ∷ []) ≡ true) × (lowestOnly all ≡ true)
+pub lowest-clause : (lowestOnly (7 ∷ 0 ∷ 0 ∷ 0 ∷ []) ≡ true) × (lowestOnly (full ∷ 1 ∷ 0 ∷ 0 ∷ []) ≡ true) × (lowestOnly everyFrame ≡ true)
 unfolding lowestOnly
 lowest-clause = (refl, refl, refl)
 
@@ -54,6 +54,6 @@ gap-clause = (refl, refl, refl, refl)
 -- one frame more: in a word, in the next word, and past the last
 pub frame-clause : (withFrame (7 ∷ 0 ∷ 0 ∷ 0 ∷ []) 3 ≡ 15 ∷ 0 ∷ 0 ∷ 0 ∷ [])
     × (withFrame (full ∷ 0 ∷ 0 ∷ 0 ∷ []) 64 ≡ full ∷ 1 ∷ 0 ∷ 0 ∷ [])
-    × (withFrame all 256 ≡ all)
+    × (withFrame everyFrame 256 ≡ everyFrame)
 unfolding withFrame
 frame-clause = (refl, refl, refl)

@@ -7,7 +7,6 @@ use mathlib.Core.Bool.{Bool, true, false}
 use mathlib.Core.List.{List, [], _∷_, _++_}
 use Prim.Native.Nat.{ℕ, zero, suc, _+_, _-_, _*_, _/_, _%_, _^_, _<_}
 use lib.Dec.{eqb}
-use lib.Bits.{bitOr}
 use lib.ListN.{length, getD, take, drop, set, replicate}
 use Rattle.paging.specs.Lists.{pick, not, all, indexOf}
 use Rattle.paging.specs.Calls.{frameLimit}
@@ -46,7 +45,7 @@ unfoldable pub onesOf : List ℕ → ℕ
 unfolding onesIn bitsOf
 onesOf map = onesIn (bitsOf map)
 
--- the lowest zero bit, which is the next free frame; where there is none, the number of bits
+-- the lowest zero bit, which is the next free frame while fewer than all frames are occupied; where there is none, the number of bits
 unfoldable pub lowestZero : List ℕ → ℕ
 unfolding indexOf bitsOf
 lowestZero map = indexOf not (bitsOf map)
@@ -87,11 +86,16 @@ mapOf held = wordsOf mapWords (lowestBits held)
 
 -- the map with a frame's bit set; a frame past the last has none
 unfoldable pub withFrame : List ℕ → ℕ → List ℕ
-withFrame map frame =
-    set map (frame / wordBits) (bitOr (getD map (frame / wordBits) 0) (2 ^ (frame % wordBits)))
+unfolding wordsOf bitsOf
+withFrame map frame = wordsOf mapWords (set (bitsOf map) frame true)
 
--- ---- the map as a record has it: four words of 64 bits
+-- ---- the map as a record has it
 
+-- words of 64 bits
+abbrev pub Small : List ℕ → Type 0
+Small map = (i : ℕ) → i < length map → getD map i 0 < 2 ^ wordBits
+
+-- four of them
 pub record Words (map : List ℕ) : Type 0 where
   pub four : length map ≡ mapWords
-  pub small : (i : ℕ) → i < length map → getD map i 0 < 2 ^ wordBits
+  pub small : Small map

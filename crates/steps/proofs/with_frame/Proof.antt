@@ -8,8 +8,9 @@ use lib.Pow.{shl-exact}
 use lib.ListN.{length, getD, set}
 use lib.Seq.{set-out}
 use borrow.Author.Needs.{needs}
-use Rattle.occupancy.specs.Map.{wordBits, withFrame, Words}
+use Rattle.occupancy.specs.Map.{wordBits, Words}
 use Rattle.occupancy.proofs.Made.{made}
+use Rattle.occupancy.proofs.Lowest.{frame-or}
 use Rattle.steps.proofs.with_frame.Statement.{statement}
 use Rattle.steps.proofs.with_frame.Tie as tie
 
@@ -38,18 +39,17 @@ array-write-after : tie.Need-array-write-after
 array-write-after c = search needs
 
 returns : tie.Need-returns
-unfolding withFrame
 returns c =
     let a = c .before .before .before .args in
     ap (λ (bit : ℕ). set (a .t1) (a .frame .0 / wordBits) (bitOr (getD (a .t1) (a .frame .0 / wordBits) 0) bit)) (shifted (a .frame .0 % wordBits) (omega arith))
+    ∙ sym (frame-or (a .t1) (made (a .t1) _ (c .before .before .before .good .0)) (a .frame .0))
 
 returns-2 : tie.Need-returns-2
-unfolding withFrame
 returns-2 c =
     let s = c .before .before .before in
     let w : Words (s .args .t1) = made (s .args .t1) _ (s .good .0) in
     let h : length (s .args .t1) ≤ s .args .frame .0 / wordBits = omega (arith, w .four, c .if1 .left) in
-    sym (set-out (s .args .t1) (s .args .frame .0 / wordBits) _ h)
+    sym (frame-or (s .args .t1) w (s .args .frame .0) ∙ set-out (s .args .t1) (s .args .frame .0 / wordBits) _ h)
 
 pub with-frame-spec : {M : Type 1} → statement M
 with-frame-spec =

@@ -29,7 +29,7 @@ unfolding sound
 returns-2 c =
     let e = c .before .before .before in
     let l : lowestOnly (e .before .before .before .args .self .map) ≡ true = sym (e .before .lowest-only .ensures) ∙ not-false _ (e .if1 .left) in
-    rw (c .sound-parts .ensures, c .before .held .ensures, l) refl
+    rw (c .sound-parts .ensures, c .before .before .held .ensures, l) refl
 
 pub sound-spec : {M : Type 1} → statement M
 sound-spec =
