@@ -21,8 +21,8 @@ use Rattle.cache.specs.Sound.{sound}
 use Rattle.records.specs.Records.{mapPlace, entriesPlace, recordLength, wordLimit, listFrom, wordFrom, mapFrom, entryFrom, entriesFrom, recordIn, recordOf, putList, putHead, putWord, putMap, putEntry, putEntries, recordOver, recordInto}
 
 -- every word of the list has 32 bits
-abbrev pub Small : List ℕ → Type 0
-Small words = (i : ℕ) → i < length words → getD words i 0 < wordLimit
+abbrev pub InWords : List ℕ → Type 0
+InWords words = (i : ℕ) → i < length words → getD words i 0 < wordLimit
 
 -- ---- things put one after the other
 
@@ -82,7 +82,7 @@ word-layout =
           omega arith;
     }
 
-word-again : (words : List ℕ) → Small words → (at : ℕ) → at + 2 ≤ length words → putWord at (wordFrom words at) words ≡ words
+word-again : (words : List ℕ) → InWords words → (at : ℕ) → at + 2 ≤ length words → putWord at (wordFrom words at) words ≡ words
 word-again words small at fits =
     let s : getD words at 0 < wordLimit = small at (omega arith) in
     let low : wordFrom words at % wordLimit ≡ getD words at 0 = omega arith in
@@ -247,7 +247,7 @@ module _ (c : Cache) (words : List ℕ) where
         ∙ list-stay 2 wordFrom putWord word-layout (c .map) head mapPlace i (inr (omega (arith, four)))
         ∙ head-stay words (c .rule) (c .frames) (c .clock) i (omega arith)
 
-over-again : (words : List ℕ) → Small words → recordLength ≤ length words → recordOver (recordIn words) words ≡ words
+over-again : (words : List ℕ) → InWords words → recordLength ≤ length words → recordOver (recordIn words) words ≡ words
 unfolding recordOver recordIn
 over-again words small fits =
     ap (λ (ws : List ℕ). putEntries (entriesFrom words) (putMap (mapFrom words) ws)) (head-again words)
@@ -285,7 +285,7 @@ module _ (c : Cache) (words : List ℕ) (formed : Formed c) where
       ]
 
 -- words read, and the record put back, are the same words: the layout loses nothing of them
-pub words-stay : (words : List ℕ) → Small words → recordInto (recordOf words) words ≡ words
+pub words-stay : (words : List ℕ) → InWords words → recordInto (recordOf words) words ≡ words
 words-stay words small =
     elim (decLt (length words) recordLength) [
       | yes few ↦ short-kept words few (recordOf words)

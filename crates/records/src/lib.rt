@@ -12,12 +12,12 @@ use paging::Page;
 const ENTRIES: usize = Cache::FRAMES as usize;
 
 // Where the map begins, and where the entries.
-const MAP: usize = 3;
+const MAP_AT: usize = 3;
 
-const FIRST: usize = MAP + 2 * occupancy::WORDS;
+const ENTRIES_AT: usize = MAP_AT + 2 * occupancy::WORDS;
 
 // How many words a record takes: 1,035.
-pub const WORDS: usize = FIRST + 4 * ENTRIES;
+pub const WORDS: usize = ENTRIES_AT + 4 * ENTRIES;
 
 // 2 to the 32: what the high half of a word of the map counts.
 const HIGH: u64 = 4294967296;
@@ -40,10 +40,10 @@ fn map_from(words: &[u32]) -> [u64; occupancy::WORDS]
     requires { ⌜ recordLength ≤ length (now words) ⌝ }
     ensures { λ r. ⌜ r ≡ mapFrom (now (words .entry)) ⌝ }
 {
-    let first = word_from(words, MAP);
-    let second = word_from(words, MAP + 2);
-    let third = word_from(words, MAP + 4);
-    let fourth = word_from(words, MAP + 6);
+    let first = word_from(words, MAP_AT);
+    let second = word_from(words, MAP_AT + 2);
+    let third = word_from(words, MAP_AT + 4);
+    let fourth = word_from(words, MAP_AT + 6);
     [first, second, third, fourth]
 }
 
@@ -63,12 +63,12 @@ fn entries_from(words: &[u32]) -> [Entry; ENTRIES]
     requires { ⌜ recordLength ≤ length (now words) ⌝ }
     ensures { λ r. ⌜ r ≡ entriesFrom (now (words .entry)) ⌝ }
 {
-    let first = entry_from(words, FIRST);
+    let first = entry_from(words, ENTRIES_AT);
     // The first everywhere, then each in its place.
     let mut entries = [first; ENTRIES];
     let mut i = 0;
     while i < ENTRIES {
-        entries[i] = entry_from(words, FIRST + 4 * i);
+        entries[i] = entry_from(words, ENTRIES_AT + 4 * i);
         i += 1;
     }
     entries
@@ -115,7 +115,7 @@ fn put_map(map: [u64; occupancy::WORDS], words: &mut [u32])
 {
     let mut i = 0;
     while i < occupancy::WORDS {
-        put_word(words, MAP + 2 * i, map[i]);
+        put_word(words, MAP_AT + 2 * i, map[i]);
         i += 1;
     }
 }
@@ -136,7 +136,7 @@ fn put_entries(cache: Cache, words: &mut [u32])
 {
     let mut i = 0;
     while i < ENTRIES {
-        put_entry(words, FIRST + 4 * i, cache.entries[i]);
+        put_entry(words, ENTRIES_AT + 4 * i, cache.entries[i]);
         i += 1;
     }
 }

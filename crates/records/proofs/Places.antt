@@ -1,4 +1,6 @@
--- Which bit of a record's words is a frame's.
+-- Where what a record says stands in its words.
+--
+-- In order: a word of the map and its halves; rule, frames and clock; the frames' bits; the entries.
 -- Assumes nothing.
 use mathlib.Core.Path.{_≡_, refl, sym, ap, _∙_}
 use mathlib.Core.Bool.{false}
@@ -10,11 +12,14 @@ use native.Mathlib.Omega.{arith}
 use lib.Dec.{eqb}
 use lib.ListN.{length, getD}
 use lib.Pow.{shr-shr}
+use Rattle.paging.specs.Walk.{zeroEntry, entryAt}
 use Rattle.paging.specs.Calls.{frameLimit}
+use Rattle.paging.specs.declared.Entry.{Entry}
 use Rattle.occupancy.specs.Map.{wordBits, mapWords, bitsOf}
 use Rattle.occupancy.proofs.Bits.{bit-is}
-use Rattle.records.specs.Records.{mapPlace, recordLength, listFrom, wordFrom, mapFrom}
-use Rattle.records.proofs.Back.{Small}
+use Rattle.cache.specs.declared.Cache.{Cache}
+use Rattle.records.specs.Records.{mapPlace, entriesPlace, recordLength, listFrom, wordFrom, mapFrom, entryFrom, recordIn, recordOf}
+use Rattle.records.proofs.Back.{InWords, long-of}
 
 -- what stands at a place of a list that is read
 list-at : {A : Type 0} (size : ℕ) (from : List ℕ → ℕ → A) (words : List ℕ) (d : A) (at count q : ℕ) → q < count → getD (listFrom size from words at count) q d ≡ from words (at + size * q)
@@ -44,7 +49,7 @@ low-bit (suc k) (suc b) low high h =
     ∙ low-bit k b (low / 2) high (omega arith)
     ∙ ap (λ (v : ℕ). v % 2) (sym (next-bit low b))
 
-module _ (words : List ℕ) (small : Small words) (fits : recordLength ≤ length words) where
+module _ (words : List ℕ) (small : InWords words) (fits : recordLength ≤ length words) where
   -- the bit of a word of the map is one of the half that it lies in
   half-bit : (at b : ℕ) → at + 2 ≤ length words → b < wordBits → wordFrom words at / 2 ^ b % 2 ≡ getD words (at + b / 32) 0 / 2 ^ (b % 32) % 2
   half-bit at b h k =
@@ -58,9 +63,8 @@ module _ (words : List ℕ) (small : Small words) (fits : recordLength ≤ lengt
             ∙ ap (λ (i : ℕ). getD words i 0 / 2 ^ (b % 32) % 2) (let e : at + 1 ≡ at + b / 32 = omega arith in e)
       ]
 
-  -- FRAME f HAS BIT f % 32 OF WORD 3 + f / 32
-  pub frame-word : (f : ℕ) → f < frameLimit → getD (bitsOf (mapFrom words)) f false ≡ eqb (getD words (mapPlace + f / 32) 0 / 2 ^ (f % 32) % 2) 1
-  frame-word f h =
+  map-bit : (f : ℕ) → f < frameLimit → getD (bitsOf (mapFrom words)) f false ≡ eqb (getD words (mapPlace + f / 32) 0 / 2 ^ (f % 32) % 2) 1
+  map-bit f h =
       let q : f / wordBits < mapWords = omega arith in
       ap (λ (i : ℕ). getD (bitsOf (mapFrom words)) i false) (let e : f ≡ wordBits * (f / wordBits) + f % wordBits = omega arith in e)
       ∙ bit-is (mapFrom words) (f / wordBits) (f % wordBits) (omega (arith, list-count 2 wordFrom words mapPlace mapWords)) (omega arith)
@@ -68,3 +72,34 @@ module _ (words : List ℕ) (small : Small words) (fits : recordLength ≤ lengt
       ∙ ap (λ (v : ℕ). eqb v 1) (half-bit (mapPlace + 2 * (f / wordBits)) (f % wordBits) (omega arith) (omega arith))
       ∙ ap (λ (i : ℕ). eqb (getD words i 0 / 2 ^ (f % wordBits % 32) % 2) 1) (let e : mapPlace + 2 * (f / wordBits) + f % wordBits / 32 ≡ mapPlace + f / 32 = omega arith in e)
       ∙ ap (λ (j : ℕ). eqb (getD words (mapPlace + f / 32) 0 / 2 ^ j % 2) 1) (let e : f % wordBits % 32 ≡ f % 32 = omega arith in e)
+
+-- WHERE IT STANDS: in words that are long enough
+module _ (words : List ℕ) (fits : recordLength ≤ length words) where
+  -- rule, frames and clock in words 0, 1 and 2
+  pub head-words : (recordOf words .rule ≡ getD words 0 0) × (recordOf words .frames ≡ getD words 1 0) × (recordOf words .clock ≡ getD words 2 0)
+  unfolding recordIn
+  head-words =
+      let e = long-of words fits in
+      (ap (λ (c : Cache). c .rule) e, ap (λ (c : Cache). c .frames) e, ap (λ (c : Cache). c .clock) e)
+
+  -- frame f has bit f % 32 of word 3 + f / 32
+  pub frame-word : InWords words → (f : ℕ) → f < frameLimit → getD (bitsOf (recordOf words .map)) f false ≡ eqb (getD words (3 + f / 32) 0 / 2 ^ (f % 32) % 2) 1
+  unfolding recordIn
+  frame-word small f h = ap (λ (c : Cache). getD (bitsOf (c .map)) f false) (long-of words fits) ∙ map-bit words small fits f h
+
+  -- page, loaded, last and earlier of frame f in words 11 + 4 f to 14 + 4 f
+  pub entry-words : (f : ℕ) → f < frameLimit
+      → (entryAt (recordOf words .entries) f .page .0 ≡ getD words (11 + 4 * f) 0)
+      × (entryAt (recordOf words .entries) f .loaded .0 ≡ getD words (12 + 4 * f) 0)
+      × (entryAt (recordOf words .entries) f .last .0 ≡ getD words (13 + 4 * f) 0)
+      × (entryAt (recordOf words .entries) f .earlier .0 ≡ getD words (14 + 4 * f) 0)
+  unfolding recordIn
+  entry-words f h =
+      let at : ℕ = entriesPlace + 4 * f in
+      let e : entryAt (recordOf words .entries) f ≡ entryFrom words at =
+      ap (λ (c : Cache). entryAt (c .entries) f) (long-of words fits) ∙ list-at 4 entryFrom words zeroEntry entriesPlace frameLimit f h in (
+        ap (λ (x : Entry). x .page .0) e,
+        ap (λ (x : Entry). x .loaded .0) e ∙ ap (λ (i : ℕ). getD words i 0) (let k : at + 1 ≡ 12 + 4 * f = omega arith in k),
+        ap (λ (x : Entry). x .last .0) e ∙ ap (λ (i : ℕ). getD words i 0) (let k : at + 2 ≡ 13 + 4 * f = omega arith in k),
+        ap (λ (x : Entry). x .earlier .0) e ∙ ap (λ (i : ℕ). getD words i 0) (let k : at + 3 ≡ 14 + 4 * f = omega arith in k),
+      )
