@@ -306,6 +306,8 @@ def building_now(made, **more):
 
 def stopping(made, source):
     """A command that is stopped while it builds stops the build too."""
+    # Where the tests were started in the background, the shell has them ignore it, and so would what they start.
+    signal.signal(signal.SIGINT, signal.default_int_handler)
     for number in (signal.SIGINT, signal.SIGTERM):
         source.write_text(f"// stopped by {number}\n")
         ended = made.calls("ended")
