@@ -1,4 +1,4 @@
--- Document 01, "Cache record" and the service Fresh.
+-- Document 01, "Cache record", with the map of request 11 in place of the number held; and the service Fresh.
 --
 -- A record is a state of the walk with its list of entries padded to 256 by blank ones, and a map of the frames that these entries occupy.
 -- Assumes nothing.

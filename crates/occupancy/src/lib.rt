@@ -19,7 +19,7 @@ pub fn held(map: [u64; WORDS]) -> u32
         + u64::count_ones(map[3])
 }
 
-// The next free frame: the lowest zero bit, which is the first that the complement has set. With all frames occupied it is the one past the last.
+// The next free frame while fewer than all are occupied: the lowest zero bit, which is the first that the complement has set; 256 where there is none.
 pub fn next_free(map: [u64; WORDS]) -> Frame
     ensures { λ r. ⌜ r .0 ≡ lowestZero map ⌝ }
 {
