@@ -148,7 +148,7 @@ def the_tables():
     }.items():
         case(f"the reference's limit: {what}", told.pop(what, None) == limit)
     case("no other limit", not told)
-    lengths = set(re.findall(r"fewer than (\d+,\d+)", HEADER + REFERENCE))
+    lengths = set(re.findall(r"(?:fewer than|a record takes|cache record is) (\d+,\d+)", HEADER + REFERENCE))
     case("a record's length wherever it is asked", lengths == {f"{is_so['RECORD_WORDS']:,}"}, str(lengths))
 
 
@@ -296,7 +296,8 @@ def the_shapes(records, shapes):
     case("each page in the lowest free frame", not wrong, str(wrong))
     case("with all held the map stays", records[257][2:11] == [257] + lowest(256))
     for cell, occupied, free in shapes:
-        held = int(occupied.split(":")[0])
+        held, frames = int(occupied.split(":")[0]), occupied.partition(": ")[2]
+        case(f"the frames of {occupied}", frames in ("", "all") or frames.split()[-3:] == ["0", "to" if held > 2 else "and", str(held - 1)])
         case(f"the map of {occupied}", records[held][3:11] == in_hexadecimal(cell) and free == ("none" if held == 256 else str(held)))
     case("maps with none and with all", [shapes[0][1], shapes[-1][2]] == ["0", "none"])
 

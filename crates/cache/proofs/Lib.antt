@@ -1,5 +1,5 @@
 -- What the proofs of the cache record use, and the laws of soundness and of Feed.
-pub mod Long
+pub mod Form
 pub mod Soundness
 pub mod Least
 pub mod Step

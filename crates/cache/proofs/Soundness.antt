@@ -10,7 +10,7 @@ use Prim.Native.Nat.{ℕ, zero, suc, _+_, _-_, _≤_, _<_}
 use native.Mathlib.Numerals.{add-one}
 use native.Mathlib.Omega.{arith}
 use lib.Dec.{eqb}
-use lib.ListN.{length, take, drop, replicate, length-drop, take-append-drop, getD-replicate}
+use lib.ListN.{length, getD, take, drop, replicate, length-drop, take-append-drop, getD-replicate}
 use lib.Seq.{length-take-le, take-append-seam, drop-append-seam}
 use borrow.Author.Tests.{eqb-true, le-ltb}
 use Rattle.paging.specs.Lists.{pick, not, both, all}
@@ -23,7 +23,7 @@ use Rattle.paging.specs.declared.Refusal.the-variants.{UnknownRule, FramesOutsi
 use Rattle.paging.proofs.Lists.{both-first, both-second, both-true}
 use Rattle.paging.proofs.Held.{apart-nil}
 use Rattle.entries.specs.Blank.{blankEntry}
-use Rattle.occupancy.specs.Map.{mapWords, onesOf, lowestZero, lowestOnly, mapOf, Words}
+use Rattle.occupancy.specs.Map.{mapWords, bitsOf, onesOf, lowestZero, lowestOnly, mapOf, Words}
 use Rattle.occupancy.proofs.Lowest.{map-none, map-ones, map-zero, map-lowest, map-words, lowest-map, lowest-means, means-lowest}
 use Rattle.soundness.specs.Sound.{feedable, allMarks, blankFrom, Orderly, soundParts, SoundParts}
 use Rattle.soundness.proofs.Meaning.{of-not, inside, is-outside, met-means, means-met}
@@ -103,10 +103,10 @@ module _ (c : Cache) (formed : Formed c) (s : Sound c) where
   map-held = lowest-map (c .map) (formed .map-words) (means-lowest (c .map) (s .lowest))
 
   -- THE NEXT FREE FRAME: while fewer than all frames are held it is the lowest zero bit, which is the frame past those in use
-  pub next-free : heldOf c < c .frames → (lowestZero (c .map) ≡ heldOf c) × (lowestZero (c .map) < c .frames)
+  pub next-free : heldOf c < c .frames → (lowestZero (c .map) ≡ heldOf c) × (lowestZero (c .map) < c .frames) × (getD (bitsOf (c .map)) (heldOf c) false ≡ false)
   next-free h =
       let e : lowestZero (c .map) ≡ heldOf c = ap lowestZero (sym map-held) ∙ map-zero (heldOf c) (omega (arith, s .parts .frames-most)) in
-      (e, omega arith)
+      (e, omega arith, s .lowest (heldOf c) ∙ le-ltb (heldOf c) (heldOf c) (omega arith))
 
 -- ---- records that are sound
 

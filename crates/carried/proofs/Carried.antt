@@ -1,6 +1,6 @@
 -- EVERY ANSWER IS THE ONE THE OLD RECORD GAVE.
 --
--- In order: each old record and its new one; soundness; Fresh and the blank record; Feed; any list of requests; numbers beyond the map.
+-- In order: each old record and its new one; soundness; Fresh and the blank record; Feed; any list of requests; numbers beyond the map; the answers of the services.
 -- Assumes nothing.
 use mathlib.Core.Path.{_≡_, refl, sym, ap, ap₂, _∙_, subst}
 use mathlib.Core.Logic.{_↔_}
@@ -111,6 +111,14 @@ fresh-stays rule n = go (gate (freshTests rule n))
     go Open = ap (handed Open) (empty-stays rule n)
     go (No refusal) = ap (handed (No refusal)) blank-stays
 
+pub fresh-mapped : (rule n : ℕ) → Mapped (oldFresh rule n .cache)
+unfolding oldFresh
+fresh-mapped rule n = go (gate (freshTests rule n))
+  where
+    go : (g : Gate) → Mapped (oldFreshBy g rule n .cache)
+    go Open = omega arith
+    go (No refusal) = omega arith
+
 -- ---- FEED: the reply and the next record, refusals too
 
 -- the tests, by whether the record is sound
@@ -187,19 +195,12 @@ pub from-fresh : (rule n : ℕ) (ps : List ℕ)
     × Mapped (oldAfter (oldFresh rule n .cache) ps)
 from-fresh rule n ps =
     let e : freshOf rule n ≡ carriedFresh (oldFresh rule n) = fresh-stays rule n in
-    let (replies, record-after, few) = feeding-stays ps (oldFresh rule n .cache) mapped in (
+    let (replies, record-after, few) = feeding-stays ps (oldFresh rule n .cache) (fresh-mapped rule n) in (
       ap (λ (f : Fresh). gateNumbers (f .gate)) e,
       ap (λ (f : Fresh). feeding (f .cache) ps) e ∙ replies,
       ap (λ (f : Fresh). after (f .cache) ps) e ∙ record-after,
       few,
     )
-  where
-    mapped : Mapped (oldFresh rule n .cache)
-    mapped = unfold oldFresh in go (gate (freshTests rule n))
-      where
-        go : (g : Gate) → Mapped (oldFreshBy g rule n .cache)
-        go Open = omega arith
-        go (No refusal) = omega arith
 
 -- ---- NUMBERS BEYOND THE MAP: such an old record was not sound, so Feed refused it and handed it back; no map has such a number of ones (`ones-all` of crate `occupancy`)
 
@@ -215,7 +216,7 @@ beyond-refused c p h =
         let parts : SoundParts (c .rule) (c .frames) (c .clock) (c .held) (c .entries) = met-means (c .rule) (c .frames) (c .clock) (c .held) (c .entries) s in
         absurd (omega (arith, parts .held-frames, parts .frames-most))
 
--- ---- the same of the answers: what Feed says of a carried record, in numbers, and the old record of the one it hands back
+-- ---- THE SAME OF THE ANSWERS: in numbers, and the old record of the one that is handed back
 
 pub answer-stays : (c : OldCache) → Mapped c → (p : ℕ) (r : Fed) → r ≡ fed (carried c) p
     → (replyNumbers (r .outcome) ≡ replyNumbers (oldFed c p .outcome)) × (carriedFrom (r .next) ≡ oldFed c p .next)
@@ -224,3 +225,14 @@ answer-stays c m p r e =
       ap (λ (x : Fed). replyNumbers (x .outcome)) f,
       ap (λ (x : Fed). carriedFrom (x .next)) f ∙ back-again (oldFed c p .next) (fed-mapped c m p),
     )
+
+pub fresh-answer-stays : (rule n : ℕ) (r : Fresh) → r ≡ freshOf rule n
+    → (gateNumbers (r .gate) ≡ gateNumbers (oldFresh rule n .gate)) × (carriedFrom (r .cache) ≡ oldFresh rule n .cache)
+fresh-answer-stays rule n r e =
+    let f : r ≡ carriedFresh (oldFresh rule n) = e ∙ fresh-stays rule n in (
+      ap (λ (x : Fresh). gateNumbers (x .gate)) f,
+      ap (λ (x : Fresh). carriedFrom (x .cache)) f ∙ back-again (oldFresh rule n .cache) (fresh-mapped rule n),
+    )
+
+pub sound-answer-stays : (c : OldCache) → Mapped c → (r : Bool) → r ≡ sound (carried c) → r ≡ oldSound c
+sound-answer-stays c m r e = e ∙ sound-stays c m

@@ -12,7 +12,7 @@ use Rattle.cache.specs.declared.Fresh.{Fresh}
 use Rattle.cache.specs.declared.Fed.{Fed}
 use Rattle.cache.specs.declared.Reply.the-variants.{Loaded, Dropped}
 use Rattle.cache.specs.Record.{emptyCache, heldOf}
-use Rattle.cache.specs.Feed.{fed}
+use Rattle.cache.specs.Feed.{fed, feeding}
 use Rattle.carried.specs.Old.{OldCache, OldFresh, OldFed, oldEmpty, oldFeeding, oldAfter}
 
 -- ---- the record, there and back
@@ -54,6 +54,10 @@ two-held = refl
 pub two-held-now : after (emptyCache 1 3) (5 ∷ 6 ∷ []) .map ≡ 3 ∷ 0 ∷ 0 ∷ 0 ∷ []
 unfolding after mapOf onesOf
 two-held-now = refl
+
+pub four-fed-now : feeding (emptyCache 1 3) (5 ∷ 6 ∷ 7 ∷ 8 ∷ []) ≡ Loaded ∷ Loaded ∷ Loaded ∷ Dropped (record { 0 = 5 }) ∷ []
+unfolding feeding mapOf onesOf
+four-fed-now = refl
 
 pub four-fed : (oldFeeding (oldEmpty 1 3) (5 ∷ 6 ∷ 7 ∷ 8 ∷ []) ≡ Loaded ∷ Loaded ∷ Loaded ∷ Dropped (record { 0 = 5 }) ∷ []) × (oldAfter (oldEmpty 1 3) (5 ∷ 6 ∷ 7 ∷ 8 ∷ []) .held ≡ 3)
 unfolding oldFeeding oldAfter

@@ -15,7 +15,7 @@ fn mistake(number: u32) -> bool {
 
 /// Each mistake, the group of cases that must find it, and what it is.
 #[cfg(test)]
-pub const MISTAKES: [(u32, &str, &str); 60] = [
+pub const MISTAKES: [(u32, &str, &str); 61] = [
     (1, "count", "a hit renews a page in FIFO"),
     (2, "plan", "MIN drops the highest of the dead pages"),
     (3, "plan", "the word after the plan is written"),
@@ -144,6 +144,11 @@ pub const MISTAKES: [(u32, &str, &str); 60] = [
         "the bits of all frames are set in a fresh record",
     ),
     (60, "short record", "a record with a number is taken"),
+    (
+        61,
+        "map",
+        "the halves of a word change places in the next record",
+    ),
 ];
 
 unsafe fn list<'a, T>(start: *const T, length: usize) -> &'a [T] {
@@ -538,6 +543,9 @@ fn mistakes_of_map(given: &Record, room: &mut [u32], told: &mut Outcome) {
     }
     if mistake(55) && told.number == 5 {
         next.map = lowest(held as u32);
+    }
+    if mistake(61) && told.number == 0 {
+        next.map = next.map.map(|word| word.rotate_left(32));
     }
     if mistake(56) && told.number == 5 && given.clock == 8_000 {
         told.number = 8;

@@ -290,15 +290,18 @@ fn every_answer_is_the_old_one() {
             held: 0,
             entries: record.entries,
         };
-        for _ in 0..300 {
+        let mut drops = 0;
+        for _ in 0..300 + 6 * frames {
             seed = seed.wrapping_mul(1_664_525).wrapping_add(1_013_904_223);
             let page = (seed >> 16) % (2 * frames + 3);
             let fed = feed(&record, page);
             assert_eq!((fed.number, fed.place), (0, 0));
             assert_eq!((fed.kind, fed.page), old.feed(page));
+            drops += u32::from(fed.kind == 2);
             record = fed.next;
-            assert_eq!(ones(&record.map) as usize, old.held);
+            assert_eq!(record.map, lowest(old.held as u32));
             assert_eq!((record.clock, record.entries), (old.clock, old.entries));
         }
+        assert!(drops > 0, "{frames} frames are filled");
     }
 }

@@ -6,7 +6,7 @@ use Prim.Native.Nat.{_+_, _*_, _-_, _≤_, _<_}
 use native.Mathlib.Omega.{arith}
 use lib.ListN.{length, drop}
 use Rattle.paging.specs.Calls.{frameLimit}
-use Rattle.cache.proofs.Long.{formed}
+use Rattle.cache.proofs.Form.{formed}
 use Rattle.records.specs.Records.{entriesPlace, putList, putEntry, putEntries}
 use Rattle.records.proofs.Back.{entry-layout}
 use Rattle.records.proofs.Loops.{put-on, put-all}

@@ -1,7 +1,7 @@
 -- `cache::Cache::serve` meets its contract: the request over the record's parts (`served-steps`).
 -- Assumes nothing.
 use borrow.Author.Needs.{needs}
-use Rattle.cache.proofs.Long.{formed}
+use Rattle.cache.proofs.Form.{formed}
 use Rattle.cache.proofs.Soundness.{sound-is}
 use Rattle.cache.proofs.Step.{served-steps}
 use Rattle.cache.proofs.Cache.serve.Statement.{statement}
