@@ -13,8 +13,10 @@ use lib.ListN.{length, getD, set, take, drop, length-set, length-map}
 use lib.Seq.{map-set-same, take-suc, drop-cons}
 use borrow.Author.Tests.{lt-ltb, le-ltb, ltb-true, ltb-false}
 use Rattle.paging.specs.Rules.{Sees, between, chosen}
-use Rattle.paging.specs.Walk.{holds, frameOf, zeroEntry, entryAt, pages, loadedAt, renewed, outcome, next, outcomes, seesAt, entriesAt}
-use Rattle.paging.specs.Lists.{any, indexOf, mem, placeOf}
+use Rattle.paging.specs.Walk.{holds, zeroEntry, entryAt, pages, loadedAt, renewed, outcome, next, outcomes, seesAt, entriesAt}
+use Rattle.paging.specs.Lists.{pick, any, indexOf, mem, placeOf}
+use Rattle.paging.specs.Held.{ifHeld, heldAfter}
+use Rattle.paging.specs.declared.Found.the-variants.{At, Absent}
 use Rattle.paging.specs.Meanings.{In, Apart}
 use Rattle.paging.specs.declared.Page.{Page}
 use Rattle.paging.specs.declared.Entry.{Entry}
@@ -33,29 +35,30 @@ pages-length es = length-map es (λ (e : Entry). e .page .0)
 pub pages-at : (es : List Entry) (i : ℕ) → getD (pages es) i 0 ≡ entryAt es i .page .0
 pages-at es i = getD-map (λ (e : Entry). e .page .0) zeroEntry es i
 
+-- a page is held where it stands among the pages
 pub mem-pages : (p : ℕ) (es : List Entry) → mem p (pages es) ≡ holds p es
 unfolding holds
-mem-pages p es = refl
-
-pub place-pages : (p : ℕ) (es : List Entry) → placeOf p (pages es) ≡ frameOf p es
-unfolding frameOf
-place-pages p es = refl
+mem-pages p es = go (mem p (pages es)) 
+  where
+    go : (b : Bool) → b ≡ ifHeld (pick b (At (record { 0 = placeOf p (pages es) })) Absent) (λ (f : ℕ). true) false
+    go true = refl
+    go false = refl
 
 -- entry by entry
-pub holds-any : (p : ℕ) (es : List Entry) → holds p es ≡ any (λ (e : Entry). eqb (e .page .0) p) es
-unfolding holds
-holds-any p es = any-map (λ (e : Entry). e .page .0) (λ (q : ℕ). eqb q p) es
+pub mem-any : (p : ℕ) (es : List Entry) → mem p (pages es) ≡ any (λ (e : Entry). eqb (e .page .0) p) es
+unfolding mem
+mem-any p es = any-map (λ (e : Entry). e .page .0) (λ (q : ℕ). eqb q p) es
 
-pub frame-index : (p : ℕ) (es : List Entry) → frameOf p es ≡ indexOf (λ (e : Entry). eqb (e .page .0) p) es
-unfolding frameOf
-frame-index p es = index-map (λ (e : Entry). e .page .0) (λ (q : ℕ). eqb q p) es
+pub place-index : (p : ℕ) (es : List Entry) → placeOf p (pages es) ≡ indexOf (λ (e : Entry). eqb (e .page .0) p) es
+unfolding placeOf
+place-index p es = index-map (λ (e : Entry). e .page .0) (λ (q : ℕ). eqb q p) es
 
 -- a held page stands in its frame
-pub held-frame : (p : ℕ) (es : List Entry) → holds p es ≡ true → (frameOf p es < length es) × (entryAt es (frameOf p es) .page .0 ≡ p)
+pub held-frame : (p : ℕ) (es : List Entry) → holds p es ≡ true → (placeOf p (pages es) < length es) × (entryAt es (placeOf p (pages es)) .page .0 ≡ p)
 held-frame p es e =
     let (h, g) = mem-place p (pages es) (mem-pages p es ∙ e) in (
-      omega (arith, rw (place-pages p es, pages-length es) at h),
-      sym (pages-at es (frameOf p es)) ∙ (rw (place-pages p es) at g),
+      omega (arith, rw (pages-length es) at h),
+      sym (pages-at es (placeOf p (pages es))) ∙ g,
     )
 
 -- ---- the three ways of one request
@@ -75,33 +78,33 @@ ways n p es = go (holds p es) (ltb (length es) n) refl refl
 module _ (rule : Rule) (n t p : ℕ) (sees : Sees) (es : List Entry) where
   pub outcome-hit : holds p es ≡ true → outcome rule n p sees es ≡ Hit
   unfolding outcome
-  outcome-hit q = rw q
+  outcome-hit q = rw (mem-pages p es ∙ q)
 
   pub outcome-room : holds p es ≡ false → length es < n → outcome rule n p sees es ≡ Loaded
   unfolding outcome
-  outcome-room q h = rw (q, lt-ltb _ _ h)
+  outcome-room q h = rw (mem-pages p es ∙ q, lt-ltb _ _ h)
 
   pub outcome-full : holds p es ≡ false → n ≤ length es → outcome rule n p sees es ≡ Dropped (entryAt es (chosen rule sees es) .page)
   unfolding outcome
-  outcome-full q h = rw (q, le-ltb _ _ h)
+  outcome-full q h = rw (mem-pages p es ∙ q, le-ltb _ _ h)
 
-  pub next-hit : holds p es ≡ true → next rule n t p sees es ≡ set es (frameOf p es) (renewed t (entryAt es (frameOf p es)))
+  pub next-hit : holds p es ≡ true → next rule n t p sees es ≡ set es (placeOf p (pages es)) (renewed t (entryAt es (placeOf p (pages es))))
   unfolding next
-  next-hit q = rw q
+  next-hit q = rw (mem-pages p es ∙ q)
 
   pub next-room : holds p es ≡ false → length es < n → next rule n t p sees es ≡ es ++ (loadedAt t p ∷ [])
   unfolding next
-  next-room q h = rw (q, lt-ltb _ _ h)
+  next-room q h = rw (mem-pages p es ∙ q, lt-ltb _ _ h)
 
   pub next-full : holds p es ≡ false → n ≤ length es → next rule n t p sees es ≡ set es (chosen rule sees es) (loadedAt t p)
   unfolding next
-  next-full q h = rw (q, le-ltb _ _ h)
+  next-full q h = rw (mem-pages p es ∙ q, le-ltb _ _ h)
 
   -- ---- what they do to the held pages
 
   -- a hit leaves them
   pub pages-hit : holds p es ≡ true → pages (next rule n t p sees es) ≡ pages es
-  pages-hit q = ap pages (next-hit q) ∙ map-set-same (λ (e : Entry). e .page .0) es (frameOf p es) (renewed t (entryAt es (frameOf p es))) zeroEntry refl
+  pages-hit q = ap pages (next-hit q) ∙ map-set-same (λ (e : Entry). e .page .0) es (placeOf p (pages es)) (renewed t (entryAt es (placeOf p (pages es)))) zeroEntry refl
 
   -- with room the new page takes the lowest free frame
   pub pages-room : holds p es ≡ false → length es < n → pages (next rule n t p sees es) ≡ pages es ++ (p ∷ [])
@@ -110,6 +113,19 @@ module _ (rule : Rule) (n t p : ℕ) (sees : Sees) (es : List Entry) where
   -- in a full cache it takes the frame of the page dropped
   pub pages-full : holds p es ≡ false → n ≤ length es → pages (next rule n t p sees es) ≡ set (pages es) (chosen rule sees es) p
   pages-full q h = ap pages (next-full q h) ∙ map-set (λ (e : Entry). e .page .0) es (chosen rule sees es) (loadedAt t p)
+
+  -- so they are the pages held after a request, with the rule's choice as the page that goes
+  pub pages-after : pages (next rule n t p sees es) ≡ heldAfter n p (At (record { 0 = chosen rule sees es })) (pages es)
+  unfolding heldAfter
+  pages-after = go (ways n p es)
+    where
+      l : length (pages es) ≡ length es
+      l = pages-length es
+
+      go : Ways n p es → pages (next rule n t p sees es) ≡ heldAfter n p (At (record { 0 = chosen rule sees es })) (pages es)
+      go (inl q) = rw (pages-hit q, mem-pages p es ∙ q)
+      go (inr (inl (q, h))) = rw (pages-room q h, mem-pages p es ∙ q, l, lt-ltb (length es) n h)
+      go (inr (inr (q, h))) = rw (pages-full q h, mem-pages p es ∙ q, l, le-ltb (length es) n h)
 
   pub next-apart : Apart (pages es) → Apart (pages (next rule n t p sees es))
   next-apart a = go (ways n p es)
@@ -135,7 +151,7 @@ module _ (rule : Rule) (n t p : ℕ) (sees : Sees) (es : List Entry) where
   next-grows = go (ways n p es)
     where
       go : Ways n p es → length (next rule n t p sees es) ≤ suc (length es)
-      go (inl q) = rw (next-hit q) (omega (arith, length-set es (frameOf p es) (renewed t (entryAt es (frameOf p es)))))
+      go (inl q) = rw (next-hit q) (omega (arith, length-set es (placeOf p (pages es)) (renewed t (entryAt es (placeOf p (pages es))))))
       go (inr (inl (q, h))) = rw (next-room q h) (omega (arith, length-snoc zeroEntry es (loadedAt t p)))
       go (inr (inr (q, h))) = rw (next-full q h) (omega (arith, length-set es (chosen rule sees es) (loadedAt t p)))
 
@@ -164,10 +180,10 @@ absent-at p es q i h e =
     absent-in p (pages es) (mem-pages p es ∙ q) (i, omega (arith, pages-length es), pages-at es i ∙ e)
 
 -- in a list of pages that differ, only its own frame has a page
-pub frame-only : (p : ℕ) (es : List Entry) → Apart (pages es) → holds p es ≡ true → (i : ℕ) → i < length es → entryAt es i .page .0 ≡ p → i ≡ frameOf p es
+pub frame-only : (p : ℕ) (es : List Entry) → Apart (pages es) → holds p es ≡ true → (i : ℕ) → i < length es → entryAt es i .page .0 ≡ p → i ≡ placeOf p (pages es)
 frame-only p es a q i h e =
     let (k, g) = held-frame p es q in
-    a i (frameOf p es) (omega (arith, pages-length es)) (omega (arith, pages-length es)) (pages-at es i ∙ e ∙ sym g ∙ sym (pages-at es (frameOf p es)))
+    a i (placeOf p (pages es)) (omega (arith, pages-length es)) (omega (arith, pages-length es)) (pages-at es i ∙ e ∙ sym g ∙ sym (pages-at es (placeOf p (pages es))))
 
 module _ (rule : Rule) (n t p : ℕ) (sees : Sees) (es : List Entry) where
   pub next-entry : Apart (pages es) → (i : ℕ) → i < length (next rule n t p sees es) → Became t p es i (entryAt (next rule n t p sees es) i)
@@ -175,7 +191,7 @@ module _ (rule : Rule) (n t p : ℕ) (sees : Sees) (es : List Entry) where
     where
       hit : holds p es ≡ true → Became t p es i (entryAt (next rule n t p sees es) i)
       hit q =
-          let e : next rule n t p sees es ≡ set es (frameOf p es) (renewed t (entryAt es (frameOf p es))) = next-hit rule n t p sees es q in
+          let e : next rule n t p sees es ≡ set es (placeOf p (pages es)) (renewed t (entryAt es (placeOf p (pages es)))) = next-hit rule n t p sees es q in
           let (k, g) = held-frame p es q in
           rw e
           (⊎-elim
@@ -188,7 +204,7 @@ module _ (rule : Rule) (n t p : ℕ) (sees : Sees) (es : List Entry) where
             w .1 ∙ ap (λ (f : ℕ). renewed t (entryAt es f)) (sym (w .0)),
           )))
           (λ w. inr (inr (w .1, (λ x. w .0 (frame-only p es a q i (w .1) x)), w .2)))
-          (set-cases zeroEntry es (frameOf p es) (renewed t (entryAt es (frameOf p es))) i (rw e at h)))
+          (set-cases zeroEntry es (placeOf p (pages es)) (renewed t (entryAt es (placeOf p (pages es)))) i (rw e at h)))
 
       room : holds p es ≡ false → length es < n → Became t p es i (entryAt (next rule n t p sees es) i)
       room q k =

@@ -3,17 +3,21 @@
 -- Assumes nothing.
 use mathlib.Core.Path.{_≡_, refl, sym, ap, _∙_}
 use mathlib.Core.Logic.{_⊎_, inl, inr, ⊎-elim, _↔_}
-use mathlib.Core.Bool.{true, false}
+use mathlib.Core.Bool.{Bool, true, false}
 use mathlib.Core.List.{List, [], _∷_, _++_}
 use Prim.Native.Nat.{ℕ, _≤_, _<_}
 use native.Mathlib.Omega.{arith}
+use native.Mathlib.Decide.{decLt}
 use lib.Dec.{eqb}
 use lib.ListN.{length, getD, set, length-set}
 use lib.Seq.{getD-set-same, getD-set-other, getD-append-seam}
 use borrow.Author.Tests.{eqb-true, eq-eqb}
-use Rattle.paging.specs.Lists.{indexOf, mem, placeOf}
+use Rattle.paging.specs.Lists.{pick, indexOf, mem, placeOf}
+use Rattle.paging.specs.Held.{found}
+use Rattle.paging.specs.declared.Found.the-variants.{At, Absent}
+use Rattle.paging.specs.declared.Frame.{Frame}
 use Rattle.paging.specs.Meanings.{In, Apart}
-use Rattle.paging.proofs.Lists.{false≢true, bool-cases, any-index, index-passes, index-is, at-any, snoc-cases, set-cases, length-snoc, getD-snoc-old}
+use Rattle.paging.proofs.Lists.{false≢true, bool-cases, any-index, index-first, index-passes, index-is, at-any, snoc-cases, set-cases, length-snoc, getD-snoc-old}
 
 -- ---- the test and the frame
 
@@ -32,12 +36,25 @@ pub place-holds : (p : ℕ) (held : List ℕ) → placeOf p held < length held �
 unfolding placeOf
 place-holds p held h = eqb-true _ _ (index-passes (λ (q : ℕ). eqb q p) 0 held h)
 
+-- and no lower one is
+pub place-first : (p : ℕ) (held : List ℕ) (i : ℕ) → i < placeOf p held → getD held i 0 ≡ p → ⊥
+unfolding placeOf
+place-first p held i h e = index-first (λ (q : ℕ). eqb q p) 0 held i h (eq-eqb _ _ e)
+
 -- a place past its end is nobody's
 pub place-out : (p : ℕ) (held : List ℕ) → length held ≤ placeOf p held → mem p held ≡ false
 place-out p held h = ⊎-elim (λ e. absurd (let (k, g) = mem-place p held e in omega arith)) (λ e. e) (bool-cases (mem p held))
 
 pub mem-in : (p : ℕ) (held : List ℕ) → mem p held ≡ true → In p held
 mem-in p held e = let (h, g) = mem-place p held e in (placeOf p held, h, g)
+
+-- where a page isn't held, its place is past the end
+pub absent-place : (p : ℕ) (held : List ℕ) → mem p held ≡ false → length held ≤ placeOf p held
+absent-place p held e =
+    elim (decLt (placeOf p held) (length held)) [
+      | yes h ↦ absurd (false≢true (sym e ∙ in-mem p held (placeOf p held, h, place-holds p held h)))
+      | no h ↦ omega arith
+    ]
 
 pub absent-in : (p : ℕ) (held : List ℕ) → mem p held ≡ false → In p held → ⊥
 absent-in p held e i = false≢true (sym e ∙ in-mem p held i)
@@ -49,6 +66,51 @@ not-in p held out = ⊎-elim (λ e. absurd (out (mem-in p held e))) (λ e. e) (b
 pub place-is : (held : List ℕ) → Apart held → (i : ℕ) → i < length held → placeOf (getD held i 0) held ≡ i
 unfolding placeOf
 place-is held a i h = index-is _ 0 held i h (eq-eqb (getD held i 0) (getD held i 0) refl) (λ j k e. a j i k h (eqb-true _ _ e))
+
+-- ---- which frame
+
+-- what the answer tells of the test and the place
+module _ (p : ℕ) (held : List ℕ) where
+  pub found-there : mem p held ≡ true → found p held ≡ At (record { 0 = placeOf p held })
+  unfolding found
+  found-there e = rw e
+
+  pub found-nowhere : mem p held ≡ false → found p held ≡ Absent
+  unfolding found
+  found-nowhere e = rw e
+
+  pub there-found : (f : Frame) → found p held ≡ At f → (mem p held ≡ true) × (placeOf p held ≡ f .0)
+  unfolding found
+  there-found f = go (mem p held)
+    where
+      go : (b : Bool) → pick b (At (record { 0 = placeOf p held })) Absent ≡ At f → (b ≡ true) × (placeOf p held ≡ f .0)
+      go true e = (refl, (cc))
+      go false e = absurd (let z : _≡_ {A = ℕ} 0 1 = cc in omega arith)
+
+  pub nowhere-found : found p held ≡ Absent → mem p held ≡ false
+  unfolding found
+  nowhere-found = go (mem p held)
+    where
+      go : (b : Bool) → pick b (At (record { 0 = placeOf p held })) Absent ≡ Absent → b ≡ false
+      go true e = absurd (let z : _≡_ {A = ℕ} 0 1 = cc in omega arith)
+      go false e = refl
+
+  -- THE FRAME TOLD is in use and has the page, and no lower one has it
+  pub found-has : (f : Frame) → found p held ≡ At f
+      → (f .0 < length held) × (getD held (f .0) 0 ≡ p) × ((i : ℕ) → i < f .0 → getD held i 0 ≡ p → ⊥)
+  found-has f e =
+      let (m, q) = there-found f e in
+      let (h, g) = mem-place p held m in
+      rw (← q) (h, g, place-first p held)
+
+  -- ABSENT is told exactly where no frame has it
+  pub absent-exactly : (found p held ≡ Absent) ↔ (In p held → ⊥)
+  absent-exactly = ((λ e. absent-in p held (nowhere-found e)), λ out. found-nowhere (not-in p held out))
+
+  -- in pages that differ the frame told is the only one that has the page
+  pub found-only : Apart held → (i : ℕ) → i < length held → getD held i 0 ≡ p → found p held ≡ At (record { 0 = i })
+  found-only a i h e =
+      found-there (in-mem p held (i, h, e)) ∙ ap (λ (f : ℕ). At (record { 0 = f })) (ap (λ (q : ℕ). placeOf q held) (sym e) ∙ place-is held a i h)
 
 -- ---- one page more, and one page in place of another
 

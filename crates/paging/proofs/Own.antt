@@ -66,7 +66,7 @@ module _ (rule : Rule) (n t p : ℕ) (sees : Sees) (es : List Entry) (some : 1 �
           record {
             keeps = rw (o, m, le-ltb (length (pages es)) n l, w);
             counts = rw (o, m);
-            leaves = rw (o, m, le-ltb (length (pages es)) n l, at, pages-full rule n t p sees es q h);
+            leaves = rw (o, m, w, le-ltb (length (pages es)) n l, at, pages-full rule n t p sees es q h);
           }
 
       go : Ways n p es → Agrees rule n t p sees es

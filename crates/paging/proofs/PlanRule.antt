@@ -12,7 +12,7 @@ use native.Mathlib.Omega.{arith}
 use native.Mathlib.Decide.{ℕ-discrete}
 use lib.Dec.{eqb, ltb}
 use lib.ListN.{length, getD, set, drop, drop-of-length-le}
-use lib.Seq.{drop-cons}
+use lib.Seq.{drop-cons, set-out}
 use borrow.Author.Tests.{eqb-true, eqb-false, lt-ltb, le-ltb, ltb-true, ltb-false}
 use Rattle.paging.specs.Rules.{mark}
 use Rattle.paging.specs.Lists.{mem, placeOf}
@@ -24,7 +24,7 @@ use Rattle.paging.specs.declared.Answer.{Answer}
 use Rattle.paging.specs.declared.Answer.the-variants.{Faults, Refused}
 use Rattle.paging.specs.declared.Refusal.{Refusal}
 use Rattle.paging.specs.declared.Refusal.the-variants.{PlanBroken}
-use Rattle.paging.proofs.Held.{in-mem, mem-in, not-in, absent-in, mem-place, apart-nil, apart-snoc, apart-set, snoc-in, set-in}
+use Rattle.paging.proofs.Held.{in-mem, mem-in, not-in, absent-in, absent-place, mem-place, apart-nil, apart-snoc, apart-set, snoc-in, set-in}
 
 -- ---- one entry
 
@@ -158,7 +158,11 @@ module _ (m : ℕ) (held : List ℕ) (p w : ℕ) where
 
   pub after-full : mem p held ≡ false → m ≤ length held → after m held p w ≡ set held (placeOf w held) p
   unfolding after
-  after-full q h = rw (q, le-ltb _ _ h)
+  after-full q h = go (mem w held) refl
+    where
+      go : (b : Bool) → mem w held ≡ b → after m held p w ≡ set held (placeOf w held) p
+      go true e = rw (q, le-ltb _ _ h, e)
+      go false e = rw (q, le-ltb _ _ h, e) (sym (set-out held (placeOf w held) p (absent-place w held e)))
 
   -- no page stands in two frames
   pub after-apart : Apart held → Apart (after m held p w)

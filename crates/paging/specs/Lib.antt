@@ -1,6 +1,7 @@
 -- Document 01's definitions, which the contracts of the other crates cite, and its worked cases.
 pub mod Lists
 pub mod Refusals
+pub mod Held
 pub mod Rules
 pub mod Walk
 pub mod Plans

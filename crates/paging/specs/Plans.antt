@@ -3,11 +3,12 @@
 -- In order: whether an entry keeps the plan rule; what is held after it; the check of a plan; what is held at a moment.
 -- The cache is the list of the held pages in frame order.
 -- Assumes nothing.
-use mathlib.Core.List.{List, [], _∷_, _++_}
+use mathlib.Core.List.{List, [], _∷_}
 use Prim.Native.Nat.{ℕ, zero, suc, _+_}
 use lib.Dec.{eqb, ltb}
-use lib.ListN.{length, getD, set}
-use Rattle.paging.specs.Lists.{pick, mem, placeOf}
+use lib.ListN.{length, getD}
+use Rattle.paging.specs.Lists.{pick}
+use Rattle.paging.specs.Held.{found, ifHeld, heldAfter}
 use Rattle.paging.specs.Rules.{mark}
 use Rattle.paging.specs.declared.Gate.{Gate}
 use Rattle.paging.specs.declared.Gate.the-variants.{Open, No}
@@ -20,23 +21,20 @@ use Rattle.paging.specs.declared.Refusal.the-variants.{LentTooShort, Pla
 -- If the page is held, the entry must be the mark. If it isn't held and there is room, the entry must be the mark.
 -- If it isn't held and the cache is full, the entry must be a page held before this request.
 unfoldable pub judged : ℕ → ℕ → List ℕ → ℕ → ℕ → Gate
-unfolding mem
+unfolding found
 judged m t held p w =
-    pick (mem p held) (pick (eqb w mark) Open (No (PlanBroken t)))
+    ifHeld (found p held) (λ (f : ℕ). pick (eqb w mark) Open (No (PlanBroken t)))
     (pick (ltb (length held) m) (pick (eqb w mark) Open (No (PlanBroken t)))
-    (pick (mem w held) Open (No (PlanBroken t))))
+    (ifHeld (found w held) (λ (f : ℕ). Open) (No (PlanBroken t))))
 
--- the pages held after the request, in frame order
+-- the pages held after the request, in frame order: in a full cache the entry names the page that goes
 unfoldable pub after : ℕ → List ℕ → ℕ → ℕ → List ℕ
-unfolding mem placeOf
-after m held p w =
-    pick (mem p held) held
-    (pick (ltb (length held) m) (held ++ (p ∷ []))
-    (set held (placeOf w held) p))
+unfolding found heldAfter
+after m held p w = heldAfter m p (found w held) held
 
 -- a request whose page isn't held is a fault
 abbrev pub absent : ℕ → List ℕ → ℕ
-absent p held = pick (mem p held) 0 1
+absent p held = ifHeld (found p held) (λ (f : ℕ). 0) 1
 
 -- ---- the check
 
@@ -47,7 +45,7 @@ through (No refusal) answer = Refused refusal
 
 -- from moment t on, after f faults
 unfoldable pub checkFrom : ℕ → ℕ → ℕ → List ℕ → List ℕ → List ℕ → Answer
-unfolding judged after mem
+unfolding judged after found
 checkFrom m t f held [] words = Faults f
 checkFrom m t f held (p ∷ ps) [] = Refused LentTooShort
 checkFrom m t f held (p ∷ ps) (w ∷ ws) =

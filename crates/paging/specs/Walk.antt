@@ -1,35 +1,31 @@
 -- Document 01: what one request does, and the walk over a trace.
 --
 -- A state of the walk is the clock, which is the moment of the new request, and the held entries in frame order: the entry of frame 0 first.
--- In order: which frame; the two ways to write an entry; one request; the walk; its two readings, faults and plan; the state at a moment.
+-- In order: the held pages; the two ways to write an entry; one request; the walk; its two readings, faults and plan; the state at a moment.
 -- Assumes nothing.
 use mathlib.Core.List.{List, [], _∷_, _++_, map}
-use mathlib.Core.Bool.{Bool}
+use mathlib.Core.Bool.{Bool, true, false}
 use Prim.Native.Nat.{ℕ, zero, suc, _+_}
 use lib.Dec.{ltb}
 use lib.ListN.{length, getD, set, take, drop}
-use Rattle.paging.specs.Lists.{pick, mem, placeOf}
+use Rattle.paging.specs.Lists.{pick}
+use Rattle.paging.specs.Held.{found, ifHeld}
 use Rattle.paging.specs.Rules.{mark, Sees, between, chosen}
 use Rattle.paging.specs.declared.Entry.{Entry}
 use Rattle.paging.specs.declared.Rule.{Rule}
 use Rattle.paging.specs.declared.Outcome.{Outcome}
 use Rattle.paging.specs.declared.Outcome.the-variants.{Hit, Loaded, Dropped}
 
--- ---- which frame
+-- ---- the held pages
 
--- the held pages in frame order
+-- in frame order
 abbrev pub pages : List Entry → List ℕ
 pages es = map (λ (e : Entry). e .page .0) es
 
--- page p is held
+-- page p is held: some frame holds it
 unfoldable pub holds : ℕ → List Entry → Bool
-unfolding mem
-holds p es = mem p (pages es)
-
--- the frame that holds page p
-unfoldable pub frameOf : ℕ → List Entry → ℕ
-unfolding placeOf
-frameOf p es = placeOf p (pages es)
+unfolding found
+holds p es = ifHeld (found p (pages es)) (λ (f : ℕ). true) false
 
 -- what a read past the last frame in use would give; with n from 1 no definition reads there
 abbrev pub zeroEntry : Entry
@@ -53,15 +49,15 @@ renewed t e = record { page = e .page; loaded = e .loaded; last = record { 0 = t
 -- ---- one request, of page p at moment t: a hit; a load with room, in the lowest free frame; a load in place of the page dropped, in its frame
 
 unfoldable pub outcome : Rule → ℕ → ℕ → Sees → List Entry → Outcome
-unfolding holds chosen
+unfolding found chosen
 outcome rule n p sees es =
-    pick (holds p es) Hit
+    ifHeld (found p (pages es)) (λ (f : ℕ). Hit)
     (pick (ltb (length es) n) Loaded (Dropped (entryAt es (chosen rule sees es) .page)))
 
 unfoldable pub next : Rule → ℕ → ℕ → ℕ → Sees → List Entry → List Entry
-unfolding holds frameOf chosen
+unfolding found chosen
 next rule n t p sees es =
-    pick (holds p es) (set es (frameOf p es) (renewed t (entryAt es (frameOf p es))))
+    ifHeld (found p (pages es)) (λ (f : ℕ). set es f (renewed t (entryAt es f)))
     (pick (ltb (length es) n) (es ++ (loadedAt t p ∷ []))
     (set es (chosen rule sees es) (loadedAt t p)))
 

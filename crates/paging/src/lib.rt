@@ -17,6 +17,12 @@ pub struct Frame(pub u32);
 // The place of a request in its trace, from 0.
 pub struct Moment(pub u32);
 
+// Which frame holds a page.
+pub enum Found {
+    At(Frame),
+    Absent,
+}
+
 // What a frame in use knows of its page.
 pub struct Entry {
     pub page: Page,
