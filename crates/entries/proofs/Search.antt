@@ -10,15 +10,16 @@ use lib.Dec.{eqb, ltb, leb}
 use lib.ListN.{length, take}
 use lib.Seq.{length-take-le, getD-take, take-all}
 use borrow.Author.Tests.{eqb-true, eq-eqb, le-leb, leb-true, ltb-true, ltb-false}
-use Rattle.paging.specs.Lists.{pick}
-use Rattle.paging.specs.Walk.{holds, frameOf, zeroEntry, entryAt}
+use Rattle.paging.specs.Lists.{pick, mem, placeOf}
+use Rattle.paging.specs.Held.{found}
+use Rattle.paging.specs.Walk.{zeroEntry, entryAt, pages}
 use Rattle.paging.specs.Calls.{frameLimit}
 use Rattle.paging.specs.declared.Entry.{Entry}
-use Rattle.paging.specs.declared.Frame.{Frame}
+use Rattle.paging.specs.declared.Found.the-variants.{At, Absent}
 use Rattle.paging.proofs.Lists.{any-index, index-passes, at-any, at-none, at-all, all-at, index-at, least-among}
-use Rattle.paging.proofs.Frames.{holds-any, frame-index}
-use Rattle.entries.specs.declared.Found.the-variants.{At, Nothing}
-use Rattle.entries.specs.Devices.Search.{inUse, foundIn, keyOf, hasLeast, leastFrame}
+use Rattle.paging.proofs.Held.{found-there, found-nowhere}
+use Rattle.paging.proofs.Frames.{mem-any, place-index}
+use Rattle.entries.specs.Devices.Search.{inUse, keyOf, hasLeast, leastFrame}
 
 -- ---- the entries in use
 
@@ -43,45 +44,26 @@ module _ (es : List Entry) (held p : ℕ) (room : held ≤ length es) where
   front-at i h = getD-take held es i zeroEntry h
 
   pub found-at : (i : ℕ) → i < held → entryAt es i .page .0 ≡ p → ((j : ℕ) → j < i → entryAt es j .page .0 ≡ p → ⊥)
-      → At (record { 0 = i }) ≡ foundIn p (take held es)
-  unfolding foundIn
+      → At (record { 0 = i }) ≡ found p (pages (take held es))
   found-at i h e none =
       let l : i < length (take held es) = omega (arith, length-take-le held es room) in
       let q : eqb (entryAt (take held es) i .page .0) p ≡ true = eq-eqb _ _ (ap (λ (d : Entry). d .page .0) (front-at i h) ∙ e) in
-      let y : holds p (take held es) ≡ true = holds-any p (take held es) ∙ at-any (λ (d : Entry). eqb (d .page .0) p) zeroEntry (take held es) i l q in
-      let f : frameOf p (take held es) ≡ i =
-      frame-index p (take held es)
+      let y : mem p (pages (take held es)) ≡ true = mem-any p (take held es) ∙ at-any (λ (d : Entry). eqb (d .page .0) p) zeroEntry (take held es) i l q in
+      let f : placeOf p (pages (take held es)) ≡ i =
+      place-index p (take held es)
       ∙ index-at (λ (d : Entry). eqb (d .page .0) p) zeroEntry (take held es) i l q
       (λ j k x. none j k (sym (ap (λ (d : Entry). d .page .0) (front-at j (omega arith))) ∙ eqb-true _ _ x)) in
-      rw (y, f)
+      sym (found-there p (pages (take held es)) y ∙ ap (λ (k : ℕ). At (record { 0 = k })) f)
 
-  pub found-none : ((j : ℕ) → j < held → entryAt es j .page .0 ≡ p → ⊥) → Nothing ≡ foundIn p (take held es)
-  unfolding foundIn
+  pub found-none : ((j : ℕ) → j < held → entryAt es j .page .0 ≡ p → ⊥) → Absent ≡ found p (pages (take held es))
   found-none none =
-      let y : holds p (take held es) ≡ false =
-      holds-any p (take held es)
+      let y : mem p (pages (take held es)) ≡ false =
+      mem-any p (take held es)
       ∙ at-none (λ (d : Entry). eqb (d .page .0) p) zeroEntry (take held es)
       (λ j k x.
       let l : j < held = omega (arith, length-take-le held es room) in
       none j l (sym (ap (λ (d : Entry). d .page .0) (front-at j l)) ∙ eqb-true _ _ x)) in
-      rw y
-
--- what an answer tells of the page
-pub found-frame : (p : ℕ) (es : List Entry) (f : Frame) → foundIn p es ≡ At f → (holds p es ≡ true) × (frameOf p es ≡ f .0)
-unfolding foundIn
-found-frame p es f = go (holds p es)
-  where
-    go : (b : Bool) → pick b (At (record { 0 = frameOf p es })) Nothing ≡ At f → (b ≡ true) × (frameOf p es ≡ f .0)
-    go true e = (refl, (cc))
-    go false e = absurd (let z : _≡_ {A = ℕ} 0 1 = cc in omega arith)
-
-pub found-nothing : (p : ℕ) (es : List Entry) → foundIn p es ≡ Nothing → holds p es ≡ false
-unfolding foundIn
-found-nothing p es = go (holds p es)
-  where
-    go : (b : Bool) → pick b (At (record { 0 = frameOf p es })) Nothing ≡ Nothing → b ≡ false
-    go true e = absurd (let z : _≡_ {A = ℕ} 0 1 = cc in omega arith)
-    go false e = refl
+      sym (found-nowhere p (pages (take held es)) y)
 
 -- ---- the frame with the least key
 

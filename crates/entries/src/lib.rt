@@ -2,19 +2,15 @@
 // The record's 256 entries come as an array, beside how many are in use; a number above 256 counts as 256.
 ghost use mathlib.Core.Path.{_≡_};
 ghost use lib.ListN.{take};
-ghost use Rattle.paging.specs.Walk.{loadedAt, renewed};
+ghost use Rattle.paging.specs.Held.{found};
+ghost use Rattle.paging.specs.Walk.{pages, loadedAt, renewed};
 ghost use Rattle.entries.specs.Blank.{blankEntry};
-ghost use Rattle.entries.specs.Devices.Search.{inUse, foundIn, keyOf, leastFrame};
+ghost use Rattle.entries.specs.Devices.Search.{inUse, keyOf, leastFrame};
 use paging::Entry;
+use paging::Found;
 use paging::Frame;
 use paging::Moment;
 use paging::Page;
-
-// Where a page is held.
-pub enum Found {
-    At(Frame),
-    Nothing,
-}
 
 // All marks.
 pub fn blank_entry() -> Entry
@@ -67,7 +63,7 @@ fn in_use(held: u32) -> usize
 
 // The frame that holds a page.
 pub fn find(entries: [Entry; calls::FRAMES as usize], held: u32, page: Page) -> Found
-    ensures { λ r. ⌜ r ≡ foundIn (page .0) (take held entries) ⌝ }
+    ensures { λ r. ⌜ r ≡ found (page .0) (pages (take held entries)) ⌝ }
 {
     let end = in_use(held);
     let mut i: usize = 0;
@@ -77,7 +73,7 @@ pub fn find(entries: [Entry; calls::FRAMES as usize], held: u32, page: Page) -> 
         }
         i += 1;
     }
-    Found::Nothing
+    Found::Absent
 }
 
 // A number for an entry: the one with the least is dropped. Under LRU-2 pages requested once come first, as moments of a sound record are below the limit of requests.

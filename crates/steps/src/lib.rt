@@ -6,8 +6,8 @@ ghost use lib.ListN.{set};
 ghost use Rattle.paging.specs.Calls.{frameLimit};
 ghost use Rattle.occupancy.specs.Map.{withFrame};
 ghost use Rattle.steps.specs.Devices.Step.{hitStep, fullStep, loadStep, stepped};
-use entries::Found;
 use paging::Entry;
+use paging::Found;
 use paging::Frame;
 use paging::Moment;
 use paging::Outcome;
@@ -126,7 +126,7 @@ pub fn step(
     let held = occupancy::held(map);
     match entries::find(entries, held, page) {
         Found::At(frame) => hit(map, entries, frame, now),
-        Found::Nothing => load(
+        Found::Absent => load(
             rule,
             frames,
             held,

@@ -1,4 +1,4 @@
--- Devices of the search among entries in use: which frame holds a page, and which has the least key.
+-- Devices of the search among entries in use: how many there are, and which has the least key.
 -- That the least key is the entry which the rule drops, of entries in order, is proved in crate `cache` (`least-chosen`).
 -- Assumes nothing.
 use mathlib.Core.List.{List}
@@ -7,20 +7,12 @@ use Prim.Native.Nat.{ℕ, _+_}
 use lib.Dec.{eqb, ltb, leb}
 use Rattle.paging.specs.Lists.{pick, all, indexOf}
 use Rattle.paging.specs.Rules.{once}
-use Rattle.paging.specs.Walk.{holds, frameOf}
 use Rattle.paging.specs.Calls.{frameLimit, requestLimit}
 use Rattle.paging.specs.declared.Entry.{Entry}
-use Rattle.entries.specs.declared.Found.{Found}
-use Rattle.entries.specs.declared.Found.the-variants.{At, Nothing}
 
 -- how many of the record's entries are in use, for any number held
 abbrev pub inUse : ℕ → ℕ
 inUse held = pick (ltb frameLimit held) frameLimit held
-
--- the frame that holds a page, if one does
-unfoldable pub foundIn : ℕ → List Entry → Found
-unfolding holds frameOf
-foundIn p es = pick (holds p es) (At (record { 0 = frameOf p es })) Nothing
 
 -- a number by which the entry that the rule drops is the least, for entries in order: moments are below the limit of requests
 abbrev pub keyOf : ℕ → Entry → ℕ

@@ -5,7 +5,8 @@ use Prim.Native.Nat.{ℕ}
 use lib.Dec.{ltb}
 use lib.ListN.{take, set}
 use Rattle.paging.specs.Lists.{pick}
-use Rattle.paging.specs.Walk.{holds, frameOf, entryAt, loadedAt, renewed}
+use Rattle.paging.specs.Held.{found, ifHeld}
+use Rattle.paging.specs.Walk.{pages, entryAt, loadedAt, renewed}
 use Rattle.paging.specs.declared.Entry.{Entry}
 use Rattle.paging.specs.declared.Outcome.the-variants.{Hit, Loaded, Dropped}
 use Rattle.occupancy.specs.Map.{onesOf, lowestZero, withFrame}
@@ -37,7 +38,7 @@ loadStep rule frames held map entries e =
 
 -- the request of page p at moment t
 unfoldable pub stepped : ℕ → ℕ → ℕ → ℕ → List ℕ → List Entry → After
-unfolding holds frameOf onesOf
+unfolding found onesOf
 stepped rule frames t p map entries =
-    pick (holds p (take (onesOf map) entries)) (hitStep map entries (frameOf p (take (onesOf map) entries)) t)
+    ifHeld (found p (pages (take (onesOf map) entries))) (λ (f : ℕ). hitStep map entries f t)
     (loadStep rule frames (onesOf map) map entries (loadedAt t p))
