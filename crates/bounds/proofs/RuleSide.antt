@@ -13,9 +13,9 @@ use native.Mathlib.Decide.{decLt}
 use lib.ListN.{length, set, length-set}
 use lib.Seq.{getD-set-same, getD-append-seam}
 use borrow.Author.Tests.{leb-true}
-use Rattle.paging.specs.Lists.{pick}
+use Rattle.paging.specs.Lists.{pick, placeOf}
 use Rattle.paging.specs.Rules.{Sees, lruDrops, fifoDrops, drops, chosen}
-use Rattle.paging.specs.Walk.{holds, frameOf, zeroEntry, entryAt, pages, loadedAt, renewed, next}
+use Rattle.paging.specs.Walk.{holds, zeroEntry, entryAt, pages, loadedAt, renewed, next}
 use Rattle.paging.specs.declared.Entry.{Entry}
 use Rattle.paging.specs.declared.Rule.{Rule}
 use Rattle.paging.specs.declared.Rule.the-variants.{Lru, Fifo}
@@ -70,7 +70,7 @@ module _ (rule : Rule) (key : Entry → ℕ) (aged : Aged rule key) (n : ℕ) (p
         go : Ways n p es → Fits (next rule n t p sees es)
         go (inl q) =
             let (h, g) = held-frame p es q in
-            rw (next-hit rule n t p sees es q) (stored (frameOf p es) (renewed t (entryAt es (frameOf p es))) g (touched (frameOf p es) h))
+            rw (next-hit rule n t p sees es q) (stored (placeOf p (pages es)) (renewed t (entryAt es (placeOf p (pages es)))) g (touched (placeOf p (pages es)) h))
         go (inr (inl (q, h))) = rw (next-room rule n t p sees es q h) (added (loadedAt t p) refl (omega (arith, aged .new t p)))
         go (inr (inr (q, h))) = rw (next-full rule n t p sees es q h) (stored (chosen rule sees es) (loadedAt t p) refl (omega (arith, aged .new t p)))
 
@@ -118,7 +118,7 @@ module _ (rule : Rule) (key : Entry → ℕ) (aged : Aged rule key) (n : ℕ) (p
         dropped j l q = omega (arith, rw (← q) at l)
 
         go : Ways n p es → Since s z (next rule n t p sees es)
-        go (inl q) = rw (next-hit rule n t p sees es q) (stored (frameOf p es) (renewed t (entryAt es (frameOf p es))) (touched (frameOf p es)))
+        go (inl q) = rw (next-hit rule n t p sees es q) (stored (placeOf p (pages es)) (renewed t (entryAt es (placeOf p (pages es)))) (touched (placeOf p (pages es))))
         go (inr (inl (q, l))) =
             rw (next-room rule n t p sees es q l)
             (let g : entryAt (es ++ (loadedAt t p ∷ [])) i ≡ entryAt es i = getD-snoc-old zeroEntry es (loadedAt t p) i h in

@@ -9,11 +9,12 @@ use lib.ListN.{length}
 use lib.Seq.{getD-set-same, getD-set-other}
 use borrow.Author.Tests.{lt-ltb, le-ltb}
 use Rattle.paging.specs.Rules.{mark, noRequests, chosen}
-use Rattle.paging.specs.Walk.{frameOf, zeroEntry}
+use Rattle.paging.specs.Lists.{placeOf}
+use Rattle.paging.specs.Walk.{pages, zeroEntry}
 use Rattle.paging.specs.Calls.{frameLimit, requestLimit}
 use Rattle.paging.specs.declared.Entry.{Entry}
 use Rattle.paging.proofs.Choice.{chosen-below}
-use Rattle.paging.proofs.Frames.{Ways, ways, held-frame}
+use Rattle.paging.proofs.Frames.{mem-pages, Ways, ways, held-frame}
 use Rattle.occupancy.proofs.Lowest.{map-ones}
 use Rattle.cache.specs.declared.Cache.{Cache}
 use Rattle.cache.specs.declared.Served.{Served}
@@ -43,23 +44,23 @@ served-places c p formed s = go (ways (c .frames) p (heldEntries c))
     go : Ways (c .frames) p (heldEntries c) → Places c p
     go (inl q) =
         let (h, e) = held-frame p (heldEntries c) q in
-        let k : frameOf p (heldEntries c) < heldOf c = omega (arith, l) in
-        let m : frameOf p (heldEntries c) < c .frames = omega (arith, s .parts .held-frames) in
-        rw q (
+        let k : placeOf p (pages (heldEntries c)) < heldOf c = omega (arith, l) in
+        let m : placeOf p (pages (heldEntries c)) < c .frames = omega (arith, s .parts .held-frames) in
+        rw (mem-pages p (heldEntries c) ∙ q) (
           m,
-          ap (λ (x : Entry). x .page .0) (sym (entry-held c (frameOf p (heldEntries c)) k)) ∙ e,
+          ap (λ (x : Entry). x .page .0) (sym (entry-held c (placeOf p (pages (heldEntries c))) k)) ∙ e,
           refl,
           omega (arith, s .parts .held-frames, s .parts .frames-most),
           sym (ap (λ (a : Served). a .next) (served-hit c formed s p q .1)),
         )
     go (inr (inl (q, h))) =
         let k : heldOf c < c .frames = omega (arith, l) in
-        rw (q, lt-ltb (heldOf c) (c .frames) k) (k, refl, refl, omega (arith, s .parts .frames-most), sym (ap (λ (a : Served). a .next) (served-room c formed s p q k)))
+        rw (mem-pages p (heldEntries c) ∙ q, lt-ltb (heldOf c) (c .frames) k) (k, refl, refl, omega (arith, s .parts .frames-most), sym (ap (λ (a : Served). a .next) (served-room c formed s p q k)))
     go (inr (inr (q, h))) =
         let k : c .frames ≤ heldOf c = omega (arith, l) in
         let m : chosen (ruleOf c) noRequests (heldEntries c) < c .frames =
         omega (arith, l, chosen-below (ruleOf c) noRequests (heldEntries c) (omega (arith, s .parts .frames-some)), s .parts .held-frames) in
-        rw (q, le-ltb (heldOf c) (c .frames) k) (m, refl, refl, omega (arith, s .parts .held-frames, s .parts .frames-most), sym (ap (λ (a : Served). a .next) (served-full c formed s p q k .1)))
+        rw (mem-pages p (heldEntries c) ∙ q, le-ltb (heldOf c) (c .frames) k) (m, refl, refl, omega (arith, s .parts .held-frames, s .parts .frames-most), sym (ap (λ (a : Served). a .next) (served-full c formed s p q k .1)))
 
 -- FEED APPLIES THE RULE TO THE ENTRIES AS THEY STAND: on any sound record, wherever the request is taken
 pub fed-applies : (c : Cache) (p : ℕ) → Formed c → sound c ≡ true → (p ≡ mark → ⊥) → (c .clock ≡ requestLimit → ⊥)

@@ -13,14 +13,15 @@ use lib.ListN.{length, set, replicate, length-set}
 use borrow.Author.Tests.{lt-ltb, le-ltb}
 use lib.Seq.{getD-take, set-append-left, set-append-seam, append-snoc}
 use Rattle.paging.specs.Rules.{mark, noRequests, chosen}
-use Rattle.paging.specs.Walk.{holds, frameOf, zeroEntry, entryAt, loadedAt, renewed, next}
+use Rattle.paging.specs.Lists.{placeOf}
+use Rattle.paging.specs.Walk.{pages, holds, zeroEntry, entryAt, loadedAt, renewed, next}
 use Rattle.paging.specs.Calls.{frameLimit, requestLimit}
 use Rattle.paging.specs.declared.Entry.{Entry}
 use Rattle.paging.specs.declared.Outcome.{Outcome}
 use Rattle.paging.specs.declared.Outcome.the-variants.{Hit, Loaded, Dropped}
 use Rattle.paging.proofs.Lists.{length-snoc}
 use Rattle.paging.proofs.Choice.{chosen-below}
-use Rattle.paging.proofs.Frames.{Ways, ways, held-frame, outcome-hit, outcome-room, outcome-full, next-hit, next-room, next-full, next-size, next-grows}
+use Rattle.paging.proofs.Frames.{mem-pages, Ways, ways, held-frame, outcome-hit, outcome-room, outcome-full, next-hit, next-room, next-full, next-size, next-grows}
 use Rattle.entries.specs.Blank.{blankEntry}
 use Rattle.entries.specs.Devices.Search.{leastFrame}
 use Rattle.occupancy.specs.Map.{lowestZero, mapOf, withFrame}
@@ -82,13 +83,13 @@ module _ (c : Cache) (formed : Formed c) (s : Sound c) (p : ℕ) where
       rebuilt c h xs = record { rule = c .rule; frames = c .frames; clock = c .clock + 1; map = mapOf h; entries = xs }
 
   pub served-hit : holds p (heldEntries c) ≡ true
-      → (frameOf p (heldEntries c) < frameLimit)
+      → (placeOf p (pages (heldEntries c)) < frameLimit)
       × (_≡_ {A = Served}
-      (record { outcome = Hit; next = placed c (frameOf p (heldEntries c)) (renewed (c .clock) (entryAt (c .entries) (frameOf p (heldEntries c)))) (heldOf c) })
+      (record { outcome = Hit; next = placed c (placeOf p (pages (heldEntries c))) (renewed (c .clock) (entryAt (c .entries) (placeOf p (pages (heldEntries c))))) (heldOf c) })
       (served c p))
   unfolding served es
   served-hit q =
-      let f : ℕ = frameOf p es in
+      let f : ℕ = placeOf p (pages es) in
       let h : f < length es = held-frame p es q .0 in
       let k : f < heldOf c = omega (arith, held-length c formed s) in
       let x : Entry = renewed (c .clock) (entryAt es f) in (
@@ -172,13 +173,13 @@ served-steps c formed s p = go (ways (c .frames) p (heldEntries c))
     l = held-length c formed s
 
     go : Ways (c .frames) p (heldEntries c) → _≡_ {A = Served} (record { outcome = stepOn c p .outcome; next = onward c (stepOn c p) }) (served c p)
-    go (inl q) = rw q (map-stays c formed s _ _ _ ∙ served-hit c formed s p q .1)
+    go (inl q) = rw (mem-pages p (heldEntries c) ∙ q) (map-stays c formed s _ _ _ ∙ served-hit c formed s p q .1)
     go (inr (inl (q, h))) =
         let k : heldOf c < c .frames = omega (arith, l) in
-        rw (q, lt-ltb (heldOf c) (c .frames) k) (map-grows c formed s _ 0 _ k ∙ served-room c formed s p q k)
+        rw (mem-pages p (heldEntries c) ∙ q, lt-ltb (heldOf c) (c .frames) k) (map-grows c formed s _ 0 _ k ∙ served-room c formed s p q k)
     go (inr (inr (q, h))) =
         let k : c .frames ≤ heldOf c = omega (arith, l) in
-        rw (q, le-ltb (heldOf c) (c .frames) k, least-drops c formed s p (omega (arith, s .parts .frames-some))) (map-stays c formed s _ _ _ ∙ served-full c formed s p q k .1)
+        rw (mem-pages p (heldEntries c) ∙ q, le-ltb (heldOf c) (c .frames) k, least-drops c formed s p (omega (arith, s .parts .frames-some))) (map-stays c formed s _ _ _ ∙ served-full c formed s p q k .1)
 
 -- ---- one request keeps a record sound
 

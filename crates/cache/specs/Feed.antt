@@ -7,7 +7,8 @@ use lib.Dec.{eqb, ltb}
 use Rattle.paging.specs.Lists.{pick, not}
 use Rattle.paging.specs.Rules.{mark, noRequests, chosen}
 use Rattle.paging.specs.Refusals.{table}
-use Rattle.paging.specs.Walk.{holds, frameOf, entryAt, loadedAt, renewed, outcome, next}
+use Rattle.paging.specs.Held.{found, ifHeld}
+use Rattle.paging.specs.Walk.{pages, entryAt, loadedAt, renewed, outcome, next}
 use Rattle.paging.specs.Calls.{frameLimit, requestLimit, Test, test, gate}
 use Rattle.paging.specs.declared.Entry.{Entry}
 use Rattle.paging.specs.declared.Gate.{Gate}
@@ -61,21 +62,21 @@ fed c p = fedBy (gate (feedTests c p)) c p
 
 -- the frame: that of the page; else, with room, the lowest free one; else that of the page that the rule drops
 unfoldable pub changedFrame : Cache → ℕ → ℕ
-unfolding holds frameOf chosen
+unfolding found chosen
 changedFrame c p =
-    pick (holds p (heldEntries c)) (frameOf p (heldEntries c))
+    ifHeld (found p (pages (heldEntries c))) (λ (f : ℕ). f)
     (pick (ltb (heldOf c) (c .frames)) (heldOf c) (chosen (ruleOf c) noRequests (heldEntries c)))
 
 -- its entry: the page requested again, or loaded, at the clock
 unfoldable pub changedEntry : Cache → ℕ → Entry
-unfolding holds changedFrame
+unfolding found
 changedEntry c p =
-    pick (holds p (heldEntries c)) (renewed (c .clock) (entryAt (c .entries) (changedFrame c p))) (loadedAt (c .clock) p)
+    ifHeld (found p (pages (heldEntries c))) (λ (f : ℕ). renewed (c .clock) (entryAt (c .entries) f)) (loadedAt (c .clock) p)
 
 -- how many entries are in use: one more where a free frame was taken
 unfoldable pub changedHeld : Cache → ℕ → ℕ
-unfolding holds
-changedHeld c p = pick (holds p (heldEntries c)) (heldOf c) (pick (ltb (heldOf c) (c .frames)) (heldOf c + 1) (heldOf c))
+unfolding found
+changedHeld c p = ifHeld (found p (pages (heldEntries c))) (λ (f : ℕ). heldOf c) (pick (ltb (heldOf c) (c .frames)) (heldOf c + 1) (heldOf c))
 
 -- document 01: the rule is applied to the entries of c as they stand, the clock is the moment of the new request, and every entry the rule doesn't change stays
 pub record Applied (c : Cache) (p : ℕ) (d : Cache) : Type 0 where
