@@ -29,6 +29,7 @@ use Rattle.cache.proofs.Feeding.{fed-open}
 abbrev Places : Cache → ℕ → Type 0
 Places c p =
     (changedFrame c p < c .frames)
+    × (changedFrame c p < changedHeld c p)
     × (changedEntry c p .page .0 ≡ p)
     × (changedEntry c p .last .0 ≡ c .clock)
     × (changedHeld c p ≤ frameLimit)
@@ -48,6 +49,7 @@ served-places c p formed s = go (ways (c .frames) p (heldEntries c))
         let m : placeOf p (pages (heldEntries c)) < c .frames = omega (arith, s .parts .held-frames) in
         rw (mem-pages p (heldEntries c) ∙ q) (
           m,
+          k,
           ap (λ (x : Entry). x .page .0) (sym (entry-held c (placeOf p (pages (heldEntries c))) k)) ∙ e,
           refl,
           omega (arith, s .parts .held-frames, s .parts .frames-most),
@@ -55,19 +57,19 @@ served-places c p formed s = go (ways (c .frames) p (heldEntries c))
         )
     go (inr (inl (q, h))) =
         let k : heldOf c < c .frames = omega (arith, l) in
-        rw (mem-pages p (heldEntries c) ∙ q, lt-ltb (heldOf c) (c .frames) k) (k, refl, refl, omega (arith, s .parts .frames-most), sym (ap (λ (a : Served). a .next) (served-room c formed s p q k)))
+        rw (mem-pages p (heldEntries c) ∙ q, lt-ltb (heldOf c) (c .frames) k) (k, omega arith, refl, refl, omega (arith, s .parts .frames-most), sym (ap (λ (a : Served). a .next) (served-room c formed s p q k)))
     go (inr (inr (q, h))) =
         let k : c .frames ≤ heldOf c = omega (arith, l) in
         let m : chosen (ruleOf c) noRequests (heldEntries c) < c .frames =
         omega (arith, l, chosen-below (ruleOf c) noRequests (heldEntries c) (omega (arith, s .parts .frames-some)), s .parts .held-frames) in
-        rw (mem-pages p (heldEntries c) ∙ q, le-ltb (heldOf c) (c .frames) k) (m, refl, refl, omega (arith, s .parts .held-frames, s .parts .frames-most), sym (ap (λ (a : Served). a .next) (served-full c formed s p q k .1)))
+        rw (mem-pages p (heldEntries c) ∙ q, le-ltb (heldOf c) (c .frames) k) (m, omega arith, refl, refl, omega (arith, s .parts .held-frames, s .parts .frames-most), sym (ap (λ (a : Served). a .next) (served-full c formed s p q k .1)))
 
 -- FEED APPLIES THE RULE TO THE ENTRIES AS THEY STAND: on any sound record, wherever the request is taken
 pub fed-applies : (c : Cache) (p : ℕ) → Formed c → sound c ≡ true → (p ≡ mark → ⊥) → (c .clock ≡ requestLimit → ⊥)
     → Applied c p (fed c p .next)
 fed-applies c p formed s page clock =
     let k : Sound c = sound-is c s in
-    let (inside, own, last, few, e) = served-places c p formed k in
+    let (inside, used, own, last, few, e) = served-places c p formed k in
     let f : ℕ = changedFrame c p in
     let x : Entry = changedEntry c p in
     rw (fed-open c p s page clock, e) (record {
@@ -77,6 +79,7 @@ fed-applies c p formed s page clock =
       map-now = refl;
       held-now = map-ones (changedHeld c p) few;
       frame-inside = inside;
+      frame-used = rw (map-ones (changedHeld c p) few) used;
       entry-now = getD-set-same (c .entries) f x zeroEntry (omega (arith, k .parts .frames-most));
       page-now = own;
       last-now = last;

@@ -86,8 +86,9 @@ pub record Applied (c : Cache) (p : ℕ) (d : Cache) : Type 0 where
   -- exactly so many lowest frames are occupied
   pub map-now : d .map ≡ mapOf (changedHeld c p)
   pub held-now : heldOf d ≡ changedHeld c p
-  -- one frame of the cache has the page, requested at the clock
+  -- one frame of the cache, which is in use then, has the page, requested at the clock
   pub frame-inside : changedFrame c p < c .frames
+  pub frame-used : changedFrame c p < heldOf d
   pub entry-now : entryAt (d .entries) (changedFrame c p) ≡ changedEntry c p
   pub page-now : changedEntry c p .page .0 ≡ p
   pub last-now : changedEntry c p .last .0 ≡ c .clock

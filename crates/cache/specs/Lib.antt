@@ -2,4 +2,5 @@
 pub mod Record
 pub mod Sound
 pub mod Feed
+pub mod Lookup
 pub mod Devices

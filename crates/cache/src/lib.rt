@@ -1,6 +1,7 @@
 // The cache record of document 01: its limits, the blank record, the empty cache of a given size, soundness, and the request of a sound record.
-// Feed is in feed.rt. What asks something of its caller is private.
+// Feed is in feed.rt, which frame holds a page in frame.rt. What asks something of its caller is private.
 mod feed;
+mod frame;
 
 ghost use mathlib.Core.Path.{_≡_};
 ghost use mathlib.Core.Bool.{true};
@@ -11,6 +12,7 @@ ghost use Rattle.cache.specs.Record.{blankCache, emptyCache, freshOf};
 ghost use Rattle.cache.specs.Sound.{sound};
 ghost use Rattle.cache.specs.Feed.{served};
 use paging::Entry;
+use paging::Frame;
 use paging::Gate;
 use paging::Moment;
 use paging::Outcome;
@@ -58,6 +60,21 @@ pub struct ReplyNumbers {
 pub struct Fed {
     pub outcome: Reply,
     pub next: Cache,
+}
+
+// Which frame of a record holds a page.
+pub enum Lookup {
+    At(Frame),
+    Absent,
+    Refused(Refusal),
+}
+
+// The answer in numbers: a refusal's number and place, whether a frame holds the page (1 or 0), and that frame; what an answer lacks is 0.
+pub struct LookupNumbers {
+    pub number: u32,
+    pub place: u32,
+    pub held: u32,
+    pub frame: u32,
 }
 
 impl Cache {
