@@ -1,4 +1,4 @@
-// Fresh, soundness and Feed for callers outside, who keep a record in words. How an answer is told, and what is asked of a caller, stands in `laying`.
+// Fresh, soundness, Frame and Feed for callers outside, who keep a record in words. How an answer is told, and what is asked of a caller, stands in `laying`.
 // Words too few for a record are refusal 5 where one is read; where one is written they are 6, after every other refusal, and stay as they were.
 ghost use mathlib.Core.Path.{_≡_};
 ghost use lib.ListN.{length};
@@ -7,10 +7,11 @@ ghost use Rattle.paging.specs.Calls.{gate};
 ghost use Rattle.paging.specs.Services.{laid};
 ghost use Rattle.cache.specs.Record.{freshOf};
 ghost use Rattle.cache.specs.Feed.{fed};
+ghost use Rattle.cache.specs.Lookup.{lookedUp};
 ghost use Rattle.records.specs.Records.{recordOf, recordInto};
 ghost use Rattle.exports_cache.specs.Lent.{freshLent, fedLent, nextLeft};
 ghost use Rattle.exports_cache.specs.Devices.{behindRoom};
-ghost use Rattle.exports_cache.specs.Words.{gateWords, soundWords, replyWords};
+ghost use Rattle.exports_cache.specs.Words.{gateWords, soundWords, lookupWords, replyWords};
 use cache::Cache;
 use cache::Reply;
 use laying::lay;
@@ -70,6 +71,15 @@ pub extern "C" fn hedravos_sound(cache: &[u32], answer: &mut [u32])
     ensures { λ r. ⌜ now (answer .exit) ≡ laid (soundWords (recordOf (now (cache .entry)))) (now (answer .entry)) ⌝ }
 {
     let numbers = [flag(record_of(cache).sound())];
+    lay(&numbers, answer);
+}
+
+#[no_mangle]
+pub extern "C" fn hedravos_frame(cache: &[u32], page: u32, answer: &mut [u32])
+    ensures { λ r. ⌜ now (answer .exit) ≡ laid (lookupWords (lookedUp (recordOf (now (cache .entry))) page)) (now (answer .entry)) ⌝ }
+{
+    let told = record_of(cache).frame_of(Page(page)).numbers();
+    let numbers = [told.number, told.place, told.held, told.frame];
     lay(&numbers, answer);
 }
 
