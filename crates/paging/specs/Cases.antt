@@ -10,6 +10,7 @@ use lib.ListN.{replicate}
 use native.Mathlib.Omega.{arith}
 use Rattle.paging.specs.Lists.{both, all}
 use Rattle.paging.specs.Refusals.{table}
+use Rattle.paging.specs.Held.{found, heldAfter}
 use Rattle.paging.specs.Rules.{mark}
 use Rattle.paging.specs.Walk.{faults, plan}
 use Rattle.paging.specs.Plans.{check}
@@ -17,6 +18,7 @@ use Rattle.paging.specs.Calls.{gate, ruleTests, lentTests}
 use Rattle.paging.specs.Services.{laid}
 use Rattle.paging.specs.declared.Rule.{Rule}
 use Rattle.paging.specs.declared.Rule.the-variants.{Lru, Fifo, Min, Lru2}
+use Rattle.paging.specs.declared.Found.the-variants.{At, Absent}
 use Rattle.paging.specs.declared.Gate.{Gate}
 use Rattle.paging.specs.declared.Gate.the-variants.{Open, No}
 use Rattle.paging.specs.declared.Answer.{Answer}
@@ -151,6 +153,19 @@ past-clause = refl
 -- a list is laid over the front of lent words: all of it, or as much as there is room for, and the words past it as they were
 pub laid-clause : (laid (1 ∷ 2 ∷ []) (7 ∷ 8 ∷ 9 ∷ []) ≡ 1 ∷ 2 ∷ 9 ∷ []) × (laid (1 ∷ 2 ∷ []) (7 ∷ []) ≡ 1 ∷ [])
 laid-clause = (refl, refl)
+
+-- which frame holds a page: the first in which it stands; absent, if it stands in none
+pub found-clause : (found 6 (5 ∷ 6 ∷ 7 ∷ []) ≡ At (record { 0 = 1 })) × (found 5 (5 ∷ 6 ∷ 5 ∷ []) ≡ At (record { 0 = 0 })) × (found 8 (5 ∷ 6 ∷ 7 ∷ []) ≡ Absent)
+unfolding found
+found-clause = (refl, refl, refl)
+
+-- the pages held after a request: on a hit, with room, and in a full cache
+pub held-after-clause :
+    (heldAfter 2 5 Absent (5 ∷ 6 ∷ []) ≡ 5 ∷ 6 ∷ [])
+    × (heldAfter 3 7 Absent (5 ∷ 6 ∷ []) ≡ 5 ∷ 6 ∷ 7 ∷ [])
+    × (heldAfter 2 7 (At (record { 0 = 0 })) (5 ∷ 6 ∷ []) ≡ 7 ∷ 6 ∷ [])
+unfolding heldAfter
+held-after-clause = (refl, refl, refl)
 
 -- ---- FIFO can fault more with more frames
 
