@@ -1,0 +1,3 @@
+-- What the proofs of the pages held use, and what walks that hold pages use of them.
+pub mod Counting
+pub mod Keeping

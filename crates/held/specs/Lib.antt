@@ -1,0 +1,2 @@
+-- What the contracts of the pages held cite.
+pub mod Index
