@@ -20,9 +20,10 @@ use Rattle.paging.specs.declared.Gate.the-variants.{Open, No}
 use Rattle.paging.specs.declared.Refusal.{Refusal}
 use Rattle.paging.specs.declared.Refusal.the-variants.{MarkRequested}
 use Rattle.paging.proofs.Lists.{true≢false, bool-cases}
+use Rattle.paging.proofs.Held.{place-out}
 use Rattle.paging.proofs.Calls.{first-mark, no-mark}
 use Rattle.calls.specs.Chain.{andThen, lentGate}
-use Rattle.calls.proofs.Search.{found-mem, lost-mem}
+use Rattle.calls.proofs.Search.{found-mem}
 
 -- a chain in two parts: the first part's refusal decides, else the second part
 pub gate-append : (xs ys : List Test) → gate (xs ++ ys) ≡ andThen (gate xs) (gate ys)
@@ -49,7 +50,7 @@ module _ (n : ℕ) (trace : List ℕ) (sized : outside n ≡ false) (short : len
 
   pub gate-open : length trace ≤ placeOf mark trace → gate (traceTests n trace) ≡ Open
   unfolding gate traceTests placeOf mem
-  gate-open h = rw (sized, le-ltb _ _ short, lost-mem mark trace h)
+  gate-open h = rw (sized, le-ltb _ _ short, place-out mark trace h)
 
 -- ---- what an open gate says of a call
 

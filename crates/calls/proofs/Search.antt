@@ -1,18 +1,16 @@
 -- Laws of a search through a list from the front, for a loop that has passed some members.
 -- Assumes nothing.
 use mathlib.Core.Path.{_≡_}
-use mathlib.Core.Logic.{⊎-elim}
-use mathlib.Core.Bool.{true, false}
+use mathlib.Core.Bool.{true}
 use mathlib.Core.List.{List}
 use Prim.Native.Nat.{ℕ, suc, _+_, _≤_, _<_}
 use native.Mathlib.Numerals.{add-one}
-use native.Mathlib.Omega.{arith}
 use lib.Dec.{eqb}
 use lib.ListN.{length, getD, drop, drop-of-length-le}
 use lib.Seq.{drop-cons}
 use borrow.Author.Tests.{eq-eqb, ne-eqb}
-use Rattle.paging.specs.Lists.{indexOf, mem, placeOf}
-use Rattle.paging.proofs.Lists.{bool-cases, index-le, any-index, index-passes, at-any}
+use Rattle.paging.specs.Lists.{mem, placeOf}
+use Rattle.paging.proofs.Lists.{index-le, index-passes, at-any}
 
 module _ (p : ℕ) (pages : List ℕ) (i : ℕ) where
   -- the page stands here
@@ -40,11 +38,3 @@ module _ (p : ℕ) (pages : List ℕ) where
   pub found-mem : placeOf p pages < length pages → mem p pages ≡ true
   unfolding mem placeOf
   found-mem h = at-any (λ (q : ℕ). eqb q p) 0 pages (placeOf p pages) h (index-passes (λ (q : ℕ). eqb q p) 0 pages h)
-
-  pub lost-mem : length pages ≤ placeOf p pages → mem p pages ≡ false
-  unfolding mem placeOf
-  lost-mem h =
-      ⊎-elim
-      (λ e. absurd (let k : indexOf (λ (q : ℕ). eqb q p) pages < length pages = any-index (λ (q : ℕ). eqb q p) 0 pages e in omega arith))
-      (λ e. e)
-      (bool-cases (mem p pages))

@@ -14,7 +14,8 @@ use Rattle.paging.specs.Lists.{placeOf}
 use Rattle.paging.specs.Calls.{frameLimit}
 use Rattle.paging.specs.Held.{found}
 use Rattle.paging.specs.declared.Found.the-variants.{At, Absent}
-use Rattle.paging.proofs.Held.{apart-nil, apart-snoc, apart-set, absent-exactly, found-only, found-there, found-nowhere, place-out, place-holds, in-mem}
+use Rattle.paging.proofs.Held.{apart-nil, apart-snoc, apart-set, absent-exactly, found-only, found-there, found-nowhere, place-out}
+use Rattle.calls.proofs.Search.{found-mem}
 use Rattle.held.specs.Index.{hashes, hashOf, hits, hashed, Indexed}
 use Rattle.held.proofs.Counting.{hash-below, hits-own, hits-other, hashed-most, hashed-at, hashed-snoc, hashed-set, none-hashed, one-other}
 
@@ -60,8 +61,7 @@ module _ (held : ℕ) (words counts hints : List ℕ) (x : Indexed held words co
   -- the search from the front came upon it, or to the end
   module _ (p at : ℕ) (e : at ≡ placeOf p (take held words)) where
     pub found-searched : at < held → At (record { 0 = at }) ≡ found p (take held words)
-    found-searched l = let k : placeOf p (take held words) < length (take held words) = rw (held-length, ← e) l in
-        rw e (sym (found-there p (take held words) (in-mem p (take held words) (placeOf p (take held words), k, place-holds p (take held words) k))))
+    found-searched l = rw e (sym (found-there p (take held words) (found-mem p (take held words) (rw (held-length, ← e) l))))
 
     pub absent-searched : held ≤ at → Absent ≡ found p (take held words)
     absent-searched l = sym (found-nowhere p (take held words) (place-out p (take held words) (rw (held-length, ← e) l)))

@@ -82,10 +82,11 @@ pub fn replace(
     ensures pages { λ r. ⌜ take held (now (pages .exit)) ≡ set (take held (now (pages .entry))) (frame .0) (page .0) ⌝ }
 {
     let at = frame.0 as usize;
-    let g = hash(pages[at]);
-    counts[g] = counts[g] - 1;
-    let h = hash(page.0);
-    counts[h] = counts[h] + 1;
-    hints[h] = frame.0 as u8;
+    let old = pages[at];
+    let goes = hash(old);
+    counts[goes] = counts[goes] - 1;
+    let comes = hash(page.0);
+    counts[comes] = counts[comes] + 1;
+    hints[comes] = frame.0 as u8;
     pages[at] = page.0;
 }

@@ -1,5 +1,4 @@
 -- What the proofs of Check and Better of two use, and the laws of both services.
-pub mod Walks
 pub mod Steps
 pub mod Accepted
 pub mod TwoPlans

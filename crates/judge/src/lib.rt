@@ -1,32 +1,39 @@
 // Document 01's services Check and Better of two.
-// A plan is checked by one walk over its trace; what is wrong with an entry is said by one function, `judge_entry`.
+// A plan is checked by one walk over its trace, with the pages held and their index in arrays of its own; what is wrong with an entry is said by one function, `judge_entry`.
 // Better of two has one choice, `better`, behind both of its questions.
 ghost use mathlib.Core.Path.{_≡_};
-ghost use mathlib.Core.Bool.{true, false};
-ghost use Prim.Native.Nat.{_+_, _<_, _≤_};
+ghost use Prim.Native.Nat.{_≤_};
 ghost use lib.Dec.{eqb};
-ghost use lib.ListN.{length};
-ghost use Rattle.paging.specs.Lists.{pick, mem, placeOf};
+ghost use lib.ListN.{length, take};
+ghost use Rattle.paging.specs.Lists.{pick};
 ghost use Rattle.paging.specs.Rules.{mark};
-ghost use Rattle.paging.specs.declared.Gate.the-variants.{Open, No};
 ghost use Rattle.paging.specs.Calls.{requestLimit, frameLimit};
-ghost use Rattle.paging.specs.Plans.{judged, after, absent, check};
+ghost use Rattle.paging.specs.Plans.{check};
 ghost use Rattle.calls.specs.Answers.{answerNumbers};
+ghost use Rattle.held.specs.Index.{Indexed};
+ghost use Rattle.judge.specs.declared.Judged.the-variants.{Keeps, Breaks};
 ghost use Rattle.judge.specs.Check.{checkOf};
-ghost use Rattle.judge.specs.Devices.{walkPages};
+ghost use Rattle.judge.specs.Devices.{stepOf, stepFaults, stepPages, Fits};
 ghost use Rattle.judge.specs.Better.{fewer, betterOf, betterWords, lenderOf, verdictNumbers};
 use paging::Answer;
+use paging::Found;
 use paging::Frame;
 use paging::Gate;
 use paging::Moment;
 use paging::Page;
 use paging::Refusal;
 
-// The walk so far: its faults, and the pages held in frame order, which are the first `count` of `pages`.
-struct Walk {
-    faults: u32,
-    count: u32,
-    pages: [u32; calls::FRAMES as usize],
+// What becomes of a request: its page stays where it is, or is loaded into the next free frame, or into the frame of a page that is dropped.
+enum Step {
+    Stays,
+    Loads,
+    Drops(Frame),
+}
+
+// What an entry of a plan comes to: it keeps the plan rule and settles the request, or it is refused.
+enum Judged {
+    Keeps(Step),
+    Breaks(Refusal),
 }
 
 // Which plan, and its faults; or the first plan's refusal.
@@ -44,79 +51,79 @@ pub struct VerdictNumbers {
     pub place: u32,
 }
 
-// An entry that must be the mark, and the refusal that it gets otherwise.
-fn mark_only(w: Page, otherwise: Refusal) -> Gate
-    ensures { λ r. ⌜ r ≡ pick (eqb (w .0) mark) Open (No otherwise) ⌝ }
-{
-    if w.0 == paging::MARK {
-        return Gate::Open;
+impl Step {
+    fn fault(self) -> u32
+        ensures { λ r. ⌜ r ≡ stepFaults self ⌝ }
+    {
+        match self {
+            Step::Stays => 0,
+            Step::Loads => 1,
+            Step::Drops(_) => 1,
+        }
     }
-    Gate::No(otherwise)
 }
 
-impl Walk {
-    fn start() -> Walk
-        ensures { λ r. ⌜ (r .faults ≡ 0) × (r .count ≡ 0) ⌝ }
-    {
-        let pages = [0u32; calls::FRAMES as usize];
-        Walk {
-            faults: 0,
-            count: 0,
-            pages: pages,
+// An entry that must be the mark: the step where it is, and the refusal that it gets otherwise.
+fn mark_only(w: Page, step: Step, otherwise: Refusal) -> Judged
+    ensures { λ r. ⌜ r ≡ pick (eqb (w .0) mark) (Keeps step) (Breaks otherwise) ⌝ }
+{
+    if w.0 == paging::MARK {
+        return Judged::Keeps(step);
+    }
+    Judged::Breaks(otherwise)
+}
+
+// What the entry `w` for a request of page `p` at moment `t` in `m` frames comes to.
+fn judge_entry(
+    m: u32,
+    t: Moment,
+    p: Page,
+    w: Page,
+    held: usize,
+    pages: &[u32],
+    counts: &[u16],
+    hints: &[u8],
+) -> Judged
+    requires { ⌜ Indexed held (now pages) (now counts) (now hints) ⌝ }
+    ensures { λ r. ⌜ r ≡ stepOf m (t .0) (take held (now (pages .entry))) (p .0) (w .0) ⌝ }
+{
+    match held::find(p, held, pages, counts, hints) {
+        Found::At(_) => mark_only(w, Step::Stays, Refusal::PlanBroken(t.0)),
+        Found::Absent => {
+            if held < m as usize {
+                return mark_only(w, Step::Loads, Refusal::PlanBroken(t.0));
+            }
+            match held::find(w, held, pages, counts, hints) {
+                Found::At(frame) => Judged::Keeps(Step::Drops(frame)),
+                Found::Absent => Judged::Breaks(Refusal::PlanBroken(t.0)),
+            }
         }
     }
+}
 
-    // The frame that holds the page; the number of pages held, if none does.
-    fn frame_of(self, p: Page) -> Frame
-        requires { ⌜ self .count ≤ frameLimit ⌝ }
-        ensures { λ r. ⌜ r .0 ≡ placeOf (p .0) (walkPages self) ⌝ }
-    {
-        let n = self.count as usize;
-        let pages = self.pages;
-        let at = calls::place_of(p.0, &pages[..n]);
-        Frame(at as u32)
-    }
-
-    // What is wrong with the entry `w` for a request of page `p` at moment `t` in `m` frames.
-    fn judge_entry(self, m: u32, t: Moment, p: Page, w: Page) -> Gate
-        requires { ⌜ self .count ≤ frameLimit ⌝ }
-        ensures { λ r. ⌜ r ≡ judged m (t .0) (walkPages self) (p .0) (w .0) ⌝ }
-    {
-        let held = self.count;
-        if self.frame_of(p).0 < held {
-            return mark_only(w, Refusal::PlanBroken(t.0));
+// Does what a step says with the page `p`, and hands back how many pages are held after it.
+fn store(
+    step: Step,
+    p: Page,
+    held: usize,
+    pages: &mut [u32],
+    counts: &mut [u16],
+    hints: &mut [u8],
+) -> usize
+    requires { ⌜ (Indexed held (now pages) (now counts) (now hints)) × (Fits step (p .0) (take held (now pages))) ⌝ }
+    ensures index { λ r. ⌜ Indexed r (now (pages .exit)) (now (counts .exit)) (now (hints .exit)) ⌝ }
+    ensures pages { λ r. ⌜ take r (now (pages .exit)) ≡ stepPages step (p .0) (take held (now (pages .entry))) ⌝ }
+{
+    match step {
+        Step::Stays => held,
+        Step::Loads => {
+            held::load(p, held, pages, counts, hints);
+            held + 1
         }
-        if held < m {
-            return mark_only(w, Refusal::PlanBroken(t.0));
+        Step::Drops(frame) => {
+            held::replace(p, frame, held, pages, counts, hints);
+            held
         }
-        if self.frame_of(w).0 < held {
-            return Gate::Open;
-        }
-        Gate::No(Refusal::PlanBroken(t.0))
-    }
-
-    // The walk after a request of page `p`. Where a page must go, the entry `w` is a page that is held.
-    fn served(self, m: u32, p: Page, w: Page) -> Walk
-        requires sizes { ⌜ (m ≤ frameLimit) × (self .count ≤ m) × (self .faults < requestLimit) ⌝ }
-        requires goes { ⌜ (mem (p .0) (walkPages self) ≡ false → m ≤ length (walkPages self) → mem (w .0) (walkPages self) ≡ true) ⌝ }
-        ensures pages { λ r. ⌜ walkPages r ≡ after m (walkPages self) (p .0) (w .0) ⌝ }
-        ensures faults { λ r. ⌜ r .faults ≡ self .faults + absent (p .0) (walkPages self) ⌝ }
-        ensures count { λ r. ⌜ r .count ≤ m ⌝ }
-    {
-        let n = self.count;
-        if self.frame_of(p).0 < n {
-            return self;
-        }
-        let mut next = self;
-        next.faults = self.faults + 1;
-        if n < m {
-            next.pages[n as usize] = p.0;
-            next.count = n + 1;
-            return next;
-        }
-        let at = self.frame_of(w).0 as usize;
-        next.pages[at] = p.0;
-        next
     }
 }
 
@@ -125,18 +132,25 @@ fn walked(m: u32, trace: &[u32], words: &[u32]) -> Answer
     requires { ⌜ (m ≤ frameLimit) × (length (now trace) ≤ requestLimit) × (length (now trace) ≤ length (now words)) ⌝ }
     ensures { λ r. ⌜ r ≡ check m (now (trace .entry)) (now (words .entry)) ⌝ }
 {
-    let mut walk = Walk::start();
-    let mut i = 0;
+    let mut pages = [0u32; held::FRAMES];
+    let mut counts = [0u16; held::HASHES];
+    let mut hints = [0u8; held::HASHES];
+    let mut held: usize = 0;
+    let mut faults: u32 = 0;
+    let mut i: usize = 0;
     while i < trace.len() {
         let p = Page(trace[i]);
         let w = Page(words[i]);
-        if let Gate::No(refusal) = walk.judge_entry(m, Moment(i as u32), p, w) {
-            return Answer::Refused(refusal);
+        match judge_entry(m, Moment(i as u32), p, w, held, &pages, &counts, &hints) {
+            Judged::Breaks(refusal) => return Answer::Refused(refusal),
+            Judged::Keeps(step) => {
+                faults += step.fault();
+                held = store(step, p, held, &mut pages, &mut counts, &mut hints);
+            }
         }
-        walk = walk.served(m, p, w);
         i += 1;
     }
-    Answer::Faults(walk.faults)
+    Answer::Faults(faults)
 }
 
 // Check: the faults of the plan in the first T words; else refusal 2, 3, 4 or 6, or 7 at the first entry that breaks the rule.

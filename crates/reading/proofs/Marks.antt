@@ -10,7 +10,8 @@ use borrow.Author.Tests.{eq-eqb, ne-eqb}
 use Rattle.paging.specs.Rules.{mark}
 use Rattle.paging.specs.Lists.{mem, placeOf}
 use Rattle.paging.specs.Calls.{marked, firstMark}
-use Rattle.calls.proofs.Search.{found-mem, lost-mem}
+use Rattle.paging.proofs.Held.{place-out}
+use Rattle.calls.proofs.Search.{found-mem}
 use Rattle.words.specs.Bytes.{wordAt, wordsAt}
 
 pub mark-start : (file : List ℕ) (count : ℕ) → 0 + firstMark (wordsAt file (16 + 4 * 0) (count - 0)) ≡ firstMark (wordsAt file 16 count)
@@ -40,4 +41,4 @@ mark-found words h = found-mem mark words h
 
 pub mark-lost : (words : List ℕ) → length words ≤ firstMark words → marked words ≡ false
 unfolding marked firstMark mem placeOf
-mark-lost words h = lost-mem mark words h
+mark-lost words h = place-out mark words h

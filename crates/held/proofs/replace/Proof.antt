@@ -10,11 +10,11 @@ use Rattle.held.proofs.replace.Tie as tie
 cast-at : tie.Need-cast-at
 cast-at c = search needs
 
-mul-hash : tie.Need-mul-hash
-mul-hash c = search needs
+mul-old : tie.Need-mul-old
+mul-old c = search needs
 
-slice-read-hash : tie.Need-slice-read-hash
-slice-read-hash c = search needs
+slice-read-old : tie.Need-slice-read-old
+slice-read-old c = search needs
 
 hash-requires : tie.Need-hash-requires
 hash-requires c κs = search needs
@@ -88,8 +88,8 @@ replace-spec =
     tie.close
     (tie.spec
     cast-at
-    mul-hash
-    slice-read-hash
+    mul-old
+    slice-read-old
     hash-requires
     mul-counts
     slice-read-counts
