@@ -25,7 +25,7 @@ use Rattle.judge.specs.declared.Step.{Step}
 use Rattle.judge.specs.declared.Step.the-variants.{Stays, Loads, Drops}
 use Rattle.judge.specs.declared.Judged.{Judged}
 use Rattle.judge.specs.declared.Judged.the-variants.{Keeps, Breaks}
-use Rattle.judge.specs.Devices.{stepOf, stepFaults, stepPages, Fits}
+use Rattle.judge.specs.Devices.{stepOf, settled, stepFaults, stepPages, Fits}
 
 -- a request is one fault at most
 pub fault-most : (s : Step) → stepFaults s ≤ 1
@@ -41,12 +41,12 @@ module _ (m t : ℕ) (held : List ℕ) (p w : ℕ) (few : m ≤ frameLimit) wher
   Means (Keeps s) gate pages faults = (gate ≡ Open) × (pages ≡ stepPages s p held) × (faults ≡ stepFaults s) × Fits s p held
   Means (Breaks r) gate pages faults = gate ≡ No r
 
-  entry-means : Means (stepOf m t held p w) (judged m t held p w) (after m held p w) (absent p held)
+  entry-means : Means (settled (judged m t held p w) (stepOf m held p w)) (judged m t held p w) (after m held p w) (absent p held)
   unfolding stepOf judged after
   entry-means = go (found p held) (ltb (length held) m) (eqb w mark) (found w held) refl refl refl refl
     where
       go : (a : Found) (b c : Bool) (d : Found) → found p held ≡ a → ltb (length held) m ≡ b → eqb w mark ≡ c → found w held ≡ d
-          → Means (stepOf m t held p w) (judged m t held p w) (after m held p w) (absent p held)
+          → Means (settled (judged m t held p w) (stepOf m held p w)) (judged m t held p w) (after m held p w) (absent p held)
       go (At f) b true d p1 p2 p3 p4 = rw (p1, p3) (refl, refl, refl, tt)
       go (At f) b false d p1 p2 p3 p4 = rw (p1, p3) refl
       go Absent true true d p1 p2 p3 p4 = rw (p1, p2, p3) (refl, refl, refl, (omega (arith, ltb-true (length held) m p2), p1))
@@ -54,11 +54,11 @@ module _ (m t : ℕ) (held : List ℕ) (p w : ℕ) (few : m ≤ frameLimit) wher
       go Absent false c (At f) p1 p2 p3 p4 = rw (p1, p2, p4) (refl, refl, refl, (found-has w held f p4 .0, p1))
       go Absent false c Absent p1 p2 p3 p4 = rw (p1, p2, p4) refl
 
-  pub keeps-means : (j : Judged) (s : Step) → j ≡ stepOf m t held p w → j ≡ Keeps s
+  pub keeps-means : (j : Judged) (s : Step) → j ≡ settled (judged m t held p w) (stepOf m held p w) → j ≡ Keeps s
       → (judged m t held p w ≡ Open) × (after m held p w ≡ stepPages s p held) × (absent p held ≡ stepFaults s) × Fits s p held
   keeps-means j s e k = subst (λ (j : Judged). Means j (judged m t held p w) (after m held p w) (absent p held)) (sym e ∙ k) entry-means
 
-  pub breaks-means : (j : Judged) (r : Refusal) → j ≡ stepOf m t held p w → j ≡ Breaks r → judged m t held p w ≡ No r
+  pub breaks-means : (j : Judged) (r : Refusal) → j ≡ settled (judged m t held p w) (stepOf m held p w) → j ≡ Breaks r → judged m t held p w ≡ No r
   breaks-means j r e b = subst (λ (j : Judged). Means j (judged m t held p w) (after m held p w) (absent p held)) (sym e ∙ b) entry-means
 
 -- ---- one request of the check
@@ -77,12 +77,12 @@ module _ (m f : ℕ) (held trace words : List ℕ) (i : ℕ) where
     step = rw (drop-cons trace i 0 h, drop-cons words i 0 (omega arith), add-one)
 
     -- the entry is passed: the check goes on behind it
-    pub check-on : (j : Judged) (s : Step) → j ≡ stepOf m i held (getD trace i 0) (getD words i 0) → j ≡ Keeps s
+    pub check-on : (j : Judged) (s : Step) → j ≡ settled (judged m i held (getD trace i 0) (getD words i 0)) (stepOf m held (getD trace i 0) (getD words i 0)) → j ≡ Keeps s
         → checkFrom m i f held (drop i trace) (drop i words)
         ≡ checkFrom m (i + 1) (f + stepFaults s) (stepPages s (getD trace i 0) held) (drop (i + 1) trace) (drop (i + 1) words)
     check-on j s e k = let (gate, pages, faults, fits) = keeps-means m i held (getD trace i 0) (getD words i 0) few j s e k in step ∙ rw (gate, pages, faults)
 
     -- it is refused: that is the answer
-    pub check-stop : (j : Judged) (r : Refusal) → j ≡ stepOf m i held (getD trace i 0) (getD words i 0) → j ≡ Breaks r
+    pub check-stop : (j : Judged) (r : Refusal) → j ≡ settled (judged m i held (getD trace i 0) (getD words i 0)) (stepOf m held (getD trace i 0) (getD words i 0)) → j ≡ Breaks r
         → checkFrom m i f held (drop i trace) (drop i words) ≡ Refused r
     check-stop j r e b = step ∙ rw (breaks-means m i held (getD trace i 0) (getD words i 0) few j r e b)

@@ -5,26 +5,33 @@
 use mathlib.Core.Path.{_≡_}
 use mathlib.Core.List.{List, [], _∷_, _++_}
 use Prim.Native.Nat.{ℕ, _<_}
-use lib.Dec.{eqb, ltb}
+use lib.Dec.{ltb}
 use lib.ListN.{length, set}
 use Rattle.paging.specs.Lists.{pick}
-use Rattle.paging.specs.Rules.{mark}
 use Rattle.paging.specs.Calls.{frameLimit}
 use Rattle.paging.specs.Held.{found, ifHeld}
 use Rattle.paging.specs.declared.Found.the-variants.{Absent}
-use Rattle.paging.specs.declared.Refusal.the-variants.{PlanBroken}
+use Rattle.paging.specs.declared.Gate.{Gate}
+use Rattle.paging.specs.declared.Gate.the-variants.{Open, No}
 use Rattle.judge.specs.declared.Step.{Step}
 use Rattle.judge.specs.declared.Step.the-variants.{Stays, Loads, Drops}
 use Rattle.judge.specs.declared.Judged.{Judged}
 use Rattle.judge.specs.declared.Judged.the-variants.{Keeps, Breaks}
 
--- what the entry w for the request of page p at moment t in m frames comes to
-unfoldable pub stepOf : ℕ → ℕ → List ℕ → ℕ → ℕ → Judged
+-- ---- what an entry comes to
+
+-- what becomes of a request of page p in m frames where the entry w keeps the plan rule: the page stays, is loaded, or takes the frame of the page that the entry names
+unfoldable pub stepOf : ℕ → List ℕ → ℕ → ℕ → Step
 unfolding found
-stepOf m t held p w =
-    ifHeld (found p held) (λ (f : ℕ). pick (eqb w mark) (Keeps Stays) (Breaks (PlanBroken t)))
-    (pick (ltb (length held) m) (pick (eqb w mark) (Keeps Loads) (Breaks (PlanBroken t)))
-    (ifHeld (found w held) (λ (f : ℕ). Keeps (Drops (record { 0 = f }))) (Breaks (PlanBroken t))))
+stepOf m held p w =
+    ifHeld (found p held) (λ (f : ℕ). Stays)
+    (pick (ltb (length held) m) Loads
+    (ifHeld (found w held) (λ (f : ℕ). Drops (record { 0 = f })) Stays))
+
+-- a refusal stands in the way of the step
+abbrev pub settled : Gate → Step → Judged
+settled Open step = Keeps step
+settled (No refusal) step = Breaks refusal
 
 -- ---- what a step does
 

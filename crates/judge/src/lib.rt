@@ -8,12 +8,12 @@ ghost use lib.ListN.{length, take};
 ghost use Rattle.paging.specs.Lists.{pick};
 ghost use Rattle.paging.specs.Rules.{mark};
 ghost use Rattle.paging.specs.Calls.{requestLimit, frameLimit};
-ghost use Rattle.paging.specs.Plans.{check};
+ghost use Rattle.paging.specs.Plans.{judged, check};
+ghost use Rattle.paging.specs.declared.Gate.the-variants.{Open, No};
 ghost use Rattle.calls.specs.Answers.{answerNumbers};
 ghost use Rattle.held.specs.Index.{Indexed};
-ghost use Rattle.judge.specs.declared.Judged.the-variants.{Keeps, Breaks};
 ghost use Rattle.judge.specs.Check.{checkOf};
-ghost use Rattle.judge.specs.Devices.{stepOf, stepFaults, stepPages, Fits};
+ghost use Rattle.judge.specs.Devices.{stepOf, settled, stepFaults, stepPages, Fits};
 ghost use Rattle.judge.specs.Better.{fewer, betterOf, betterWords, lenderOf, verdictNumbers};
 use paging::Answer;
 use paging::Found;
@@ -65,7 +65,7 @@ impl Step {
 
 // An entry that must be the mark: the step where it is, and the refusal that it gets otherwise.
 fn mark_only(w: Page, step: Step, otherwise: Refusal) -> Judged
-    ensures { λ r. ⌜ r ≡ pick (eqb (w .0) mark) (Keeps step) (Breaks otherwise) ⌝ }
+    ensures { λ r. ⌜ r ≡ settled (pick (eqb (w .0) mark) Open (No otherwise)) step ⌝ }
 {
     if w.0 == paging::MARK {
         return Judged::Keeps(step);
@@ -85,7 +85,7 @@ fn judge_entry(
     hints: &[u8],
 ) -> Judged
     requires { ⌜ Indexed held (now pages) (now counts) (now hints) ⌝ }
-    ensures { λ r. ⌜ r ≡ stepOf m (t .0) (take held (now (pages .entry))) (p .0) (w .0) ⌝ }
+    ensures { λ r. ⌜ r ≡ settled (judged m (t .0) (take held (now (pages .entry))) (p .0) (w .0)) (stepOf m (take held (now (pages .entry))) (p .0) (w .0)) ⌝ }
 {
     match held::find(p, held, pages, counts, hints) {
         Found::At(_) => mark_only(w, Step::Stays, Refusal::PlanBroken(t.0)),

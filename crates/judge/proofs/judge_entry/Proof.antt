@@ -6,6 +6,7 @@ use borrow.Author.Needs.{needs}
 use borrow.Author.Tests.{lt-ltb, le-ltb}
 use lib.Dec.{ltb}
 use lib.ListN.{length, take}
+use Rattle.paging.specs.Plans.{judged}
 use Rattle.held.proofs.Keeping.{held-length}
 use Rattle.judge.specs.Devices.{stepOf}
 use Rattle.judge.proofs.judge_entry.Statement.{statement}
@@ -39,7 +40,7 @@ mark-only-requires-2 : tie.Need-mark-only-requires-2
 mark-only-requires-2 c κs = search needs
 
 returns : tie.Need-returns
-unfolding stepOf
+unfolding stepOf judged
 returns c =
     rw (← c .before .before .before .before .find .ensures, c .before .before .enum-told2 .given .1, room (c .before)) (c .mark-only2 .ensures)
 
@@ -53,18 +54,18 @@ enum-told-3 : tie.Need-enum-told-3
 enum-told-3 c = search needs
 
 returns-2 : tie.Need-returns-2
-unfolding stepOf
+unfolding stepOf judged
 returns-2 c = rw (← c .before .before .before .find .ensures, c .before .enum-told .given .1) (c .mark-only .ensures)
 
 returns-3 : tie.Need-returns-3
-unfolding stepOf
+unfolding stepOf judged
 returns-3 c =
     let miss = c .before .before .before .before .before in
     rw (← miss .before .before .find .ensures, miss .enum-told2 .given .1, full (c .before .before .before .before), ← c .before .before .before .find2 .ensures, c .before .frame .given .1)
     refl
 
 returns-4 : tie.Need-returns-4
-unfolding stepOf
+unfolding stepOf judged
 returns-4 c =
     let miss = c .before .before .before .before in
     rw (← miss .before .before .find .ensures, miss .enum-told2 .given .1, full (c .before .before .before), ← c .before .before .find2 .ensures, c .enum-told3 .given .1)
