@@ -1,4 +1,3 @@
--- What the proofs of Check and Better of two use, and the laws of both services.
-pub mod Steps
+-- The laws of the services Check and Better of two, which their proofs use too.
 pub mod Accepted
 pub mod TwoPlans

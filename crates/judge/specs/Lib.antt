@@ -1,4 +1,3 @@
--- What the contracts of Check and Better of two cite; Devices has what only private functions promise.
+-- What the contracts of Check and Better of two cite.
 pub mod Check
 pub mod Better
-pub mod Devices

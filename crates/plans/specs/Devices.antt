@@ -13,14 +13,15 @@ use Rattle.paging.specs.Held.{found, ifHeld}
 use Rattle.paging.specs.declared.Found.the-variants.{Absent}
 use Rattle.paging.specs.declared.Gate.{Gate}
 use Rattle.paging.specs.declared.Gate.the-variants.{Open, No}
-use Rattle.judge.specs.declared.Step.{Step}
-use Rattle.judge.specs.declared.Step.the-variants.{Stays, Loads, Drops}
-use Rattle.judge.specs.declared.Judged.{Judged}
-use Rattle.judge.specs.declared.Judged.the-variants.{Keeps, Breaks}
+use Rattle.plans.specs.declared.Step.{Step}
+use Rattle.plans.specs.declared.Step.the-variants.{Stays, Loads, Drops}
+use Rattle.plans.specs.declared.Judged.{Judged}
+use Rattle.plans.specs.declared.Judged.the-variants.{Keeps, Breaks}
 
 -- ---- what an entry comes to
 
--- what becomes of a request of page p in m frames where the entry w keeps the plan rule: the page stays, is loaded, or takes the frame of the page that the entry names
+-- what becomes of a request of page p in m frames where the entry w keeps the plan rule: the page stays, is loaded, or takes the frame of the page that the entry names.
+-- Where the entry breaks the rule, this is of no account
 unfoldable pub stepOf : ℕ → List ℕ → ℕ → ℕ → Step
 unfolding found
 stepOf m held p w =

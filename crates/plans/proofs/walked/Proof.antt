@@ -1,4 +1,4 @@
--- `judge::walked` meets its contract. The loop's invariant: the check from here on, with the faults and the pages held so far, gives the whole.
+-- `plans::walked` meets its contract. The loop's invariant: the check from here on, with the faults and the pages held so far, gives the whole.
 -- Assumes nothing.
 use mathlib.Core.Path.{_≡_, refl, sym, _∙_}
 use Prim.Native.Nat.{_-_, _≤_}
@@ -8,9 +8,9 @@ use lib.ListN.{length, take, drop}
 use Rattle.paging.specs.Plans.{checkFrom, check}
 use Rattle.held.specs.Index.{Indexed}
 use Rattle.held.proofs.Keeping.{index-starts}
-use Rattle.judge.proofs.Steps.{fault-most, keeps-means, check-end, check-on, check-stop}
-use Rattle.judge.proofs.walked.Statement.{statement}
-use Rattle.judge.proofs.walked.Tie as tie
+use Rattle.plans.proofs.Steps.{fault-most, keeps-means, check-end, check-on, check-stop}
+use Rattle.plans.proofs.walked.Statement.{statement}
+use Rattle.plans.proofs.walked.Tie as tie
 
 abbrev Inv-loop : tie.InvT-loop
 Inv-loop m trace words pages₀ counts₀ hints₀ held₀ faults₀ i₀ pages counts hints held faults i =
@@ -112,7 +112,7 @@ loop-again c =
       omega (arith, f .fault .ensures, fault-most (f .before .before .step .given .0 .0), l .loop .inv .1),
       store .ensures .0,
       rw (f .fault .ensures, store .ensures .1)
-          (sym (check-on _ (l .loop .faults) _ _ _ _ test (s .pre .2) (s .pre .0) _ _ (j .judge-entry .ensures) (f .before .before .step .given .1)) ∙ l .loop .inv .3),
+          (sym (check-on _ (l .loop .faults) (take (l .loop .held) (l .loop .pages)) _ _ _ test (s .pre .2) (s .pre .0) _ _ (j .judge-entry .ensures) (f .before .before .step .given .1)) ∙ l .loop .inv .3),
     )
 
 returns-2 : tie.Need-returns-2 Inv-loop μ-loop

@@ -1,4 +1,4 @@
--- `judge::judge_entry` meets its contract: the three sentences of the plan rule, by what the searches found.
+-- `plans::judge_entry` meets its contract: the three sentences of the plan rule, by what the searches found.
 -- Assumes nothing.
 use mathlib.Core.Path.{_≡_, refl}
 use mathlib.Core.Bool.{true, false}
@@ -8,9 +8,9 @@ use lib.Dec.{ltb}
 use lib.ListN.{length, take}
 use Rattle.paging.specs.Plans.{judged}
 use Rattle.held.proofs.Keeping.{held-length}
-use Rattle.judge.specs.Devices.{stepOf}
-use Rattle.judge.proofs.judge_entry.Statement.{statement}
-use Rattle.judge.proofs.judge_entry.Tie as tie
+use Rattle.plans.specs.Devices.{stepOf}
+use Rattle.plans.proofs.judge_entry.Statement.{statement}
+use Rattle.plans.proofs.judge_entry.Tie as tie
 
 room : (c : tie.Then1)
     → ltb (length (take (c .before .before .before .before .before .before .before .args .held) (c .before .before .before .before .before .before .before .args .pages .now)))
@@ -33,16 +33,19 @@ enum-told c = search needs
 mark-only-requires : tie.Need-mark-only-requires
 mark-only-requires c κs = search needs
 
+returns : tie.Need-returns
+unfolding stepOf judged
+returns c = rw (← c .before .before .before .find .ensures, c .before .enum-told .given .1) (c .mark-only .ensures)
+
 enum-told-2 : tie.Need-enum-told-2
 enum-told-2 c = search needs
 
 mark-only-requires-2 : tie.Need-mark-only-requires-2
 mark-only-requires-2 c κs = search needs
 
-returns : tie.Need-returns
+returns-2 : tie.Need-returns-2
 unfolding stepOf judged
-returns c =
-    rw (← c .before .before .before .before .find .ensures, c .before .before .enum-told2 .given .1, room (c .before)) (c .mark-only2 .ensures)
+returns-2 c = rw (← c .before .before .before .before .find .ensures, c .before .before .enum-told2 .given .1, room (c .before)) (c .mark-only2 .ensures)
 
 find-requires-2 : tie.Need-find-requires-2
 find-requires-2 c κs = search needs
@@ -52,10 +55,6 @@ enum-known-frame c = search needs
 
 enum-told-3 : tie.Need-enum-told-3
 enum-told-3 c = search needs
-
-returns-2 : tie.Need-returns-2
-unfolding stepOf judged
-returns-2 c = rw (← c .before .before .before .find .ensures, c .before .enum-told .given .1) (c .mark-only .ensures)
 
 returns-3 : tie.Need-returns-3
 unfolding stepOf judged
@@ -78,12 +77,12 @@ judge-entry-spec =
     find-requires
     enum-told
     mark-only-requires
+    returns
     enum-told-2
     mark-only-requires-2
-    returns
+    returns-2
     find-requires-2
     enum-known-frame
     enum-told-3
-    returns-2
     returns-3
     returns-4)

@@ -1,11 +1,11 @@
--- `judge::store` meets its contract: a page stays, is loaded, or takes the frame of another.
+-- `plans::store` meets its contract: a page stays, is loaded, or takes the frame of another.
 -- Assumes nothing.
 use mathlib.Core.Path.{refl}
 use native.Mathlib.Omega.{arith}
 use borrow.Author.Needs.{needs}
 use Rattle.held.proofs.Keeping.{held-length}
-use Rattle.judge.proofs.store.Statement.{statement}
-use Rattle.judge.proofs.store.Tie as tie
+use Rattle.plans.proofs.store.Statement.{statement}
+use Rattle.plans.proofs.store.Tie as tie
 
 enum-told : tie.Need-enum-told
 enum-told c = search needs

@@ -21,11 +21,11 @@ use Rattle.paging.specs.declared.Gate.the-variants.{Open, No}
 use Rattle.paging.specs.declared.Answer.the-variants.{Faults, Refused}
 use Rattle.paging.specs.declared.Refusal.{Refusal}
 use Rattle.paging.proofs.Held.{found-has}
-use Rattle.judge.specs.declared.Step.{Step}
-use Rattle.judge.specs.declared.Step.the-variants.{Stays, Loads, Drops}
-use Rattle.judge.specs.declared.Judged.{Judged}
-use Rattle.judge.specs.declared.Judged.the-variants.{Keeps, Breaks}
-use Rattle.judge.specs.Devices.{stepOf, settled, stepFaults, stepPages, Fits}
+use Rattle.plans.specs.declared.Step.{Step}
+use Rattle.plans.specs.declared.Step.the-variants.{Stays, Loads, Drops}
+use Rattle.plans.specs.declared.Judged.{Judged}
+use Rattle.plans.specs.declared.Judged.the-variants.{Keeps, Breaks}
+use Rattle.plans.specs.Devices.{stepOf, settled, stepFaults, stepPages, Fits}
 
 -- a request is one fault at most
 pub fault-most : (s : Step) → stepFaults s ≤ 1
