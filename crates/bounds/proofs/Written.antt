@@ -12,7 +12,7 @@ use Rattle.paging.specs.declared.Answer.the-variants.{Faults}
 use Rattle.paging.proofs.Writing.{plan-length}
 use Rattle.counts.specs.Counts.{planAnswer, planWords}
 use Rattle.counts.proofs.Services.{plan-then-rest, written-plan-accepted, in-order}
-use Rattle.judge.specs.Check.{checkOf}
+use Rattle.plans.specs.Check.{checkOf}
 use Rattle.judge.proofs.Accepted.{check-decides}
 
 module _ (rule n : ℕ) (trace words : List ℕ) (f : ℕ) (said : planAnswer rule n trace words ≡ Faults f) where

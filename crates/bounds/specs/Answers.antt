@@ -6,7 +6,7 @@ use mathlib.Core.List.{List}
 use Prim.Native.Nat.{ℕ, _≤_}
 use Rattle.paging.specs.declared.Answer.the-variants.{Faults}
 use Rattle.counts.specs.Counts.{countOf}
-use Rattle.judge.specs.Check.{checkOf}
+use Rattle.plans.specs.Check.{checkOf}
 
 -- for the rule of this number
 abbrev pub OfAnswers : (ℕ → ℕ → ℕ → ℕ → Type 0) → ℕ → Type 0

@@ -1,7 +1,7 @@
 // Count, Write a plan and Check for callers outside. How an answer is told, and what is asked of a caller, stands in `laying`.
 ghost use mathlib.Core.Path.{_≡_};
 ghost use Rattle.counts.specs.Counts.{countOf, planAnswer, planWords};
-ghost use Rattle.judge.specs.Check.{checkOf};
+ghost use Rattle.plans.specs.Check.{checkOf};
 ghost use Rattle.paging.specs.Services.{laid};
 ghost use Rattle.exports_counts.specs.Words.{countWords};
 use laying::lay;

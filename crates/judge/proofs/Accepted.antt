@@ -28,7 +28,7 @@ use Rattle.paging.proofs.Writing.{plan-length}
 use Rattle.paging.specs.Meanings.{InOrder, KeepsAt, absences}
 use Rattle.paging.proofs.PlanRule.{accepted-exactly, accepted-count, refused-first}
 use Rattle.calls.proofs.Chain.{trace-open, lent-open}
-use Rattle.judge.specs.Check.{checkOf}
+use Rattle.plans.specs.Check.{checkOf}
 
 -- ---- the tests before the entries
 

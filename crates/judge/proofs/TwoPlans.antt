@@ -21,7 +21,7 @@ use Rattle.paging.specs.declared.Refusal.{Refusal}
 use Rattle.paging.specs.Meanings.{InOrder}
 use Rattle.calls.proofs.Chain.{gate-append}
 use Rattle.judge.specs.declared.Verdict.the-variants.{First, Second, Neither}
-use Rattle.judge.specs.Check.{checkOf}
+use Rattle.plans.specs.Check.{checkOf}
 use Rattle.judge.specs.Better.{fewer, betterOf, betterWords}
 use Rattle.judge.proofs.Accepted.{check-decides, accepted-open, front-decides}
 

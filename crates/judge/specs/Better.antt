@@ -11,7 +11,7 @@ use Rattle.paging.specs.declared.Answer.the-variants.{Faults, Refused}
 use Rattle.judge.specs.declared.Verdict.{Verdict}
 use Rattle.judge.specs.declared.Verdict.the-variants.{First, Second, Neither}
 use Rattle.judge.specs.declared.VerdictNumbers.{VerdictNumbers}
-use Rattle.judge.specs.Check.{checkOf}
+use Rattle.plans.specs.Check.{checkOf}
 
 -- Which plan has fewer faults. Equal: the first. Only one accepted: that one. Neither: the first plan's refusal.
 abbrev pub fewer : Answer → Answer → Verdict

@@ -1,3 +1,2 @@
--- What the contracts of Check and Better of two cite.
-pub mod Check
+-- What the contracts of Better of two cite; what Check answers stands in crate `plans`.
 pub mod Better

@@ -1,12 +1,11 @@
 // Document 01's services Check and Better of two.
-// Check is the chain of refusals, then the walk of the plan (`plans::walked`).
+// Check is answered by the walk of a plan (`plans::run`).
 // Better of two has one choice, `better`, behind both of its questions.
 ghost use mathlib.Core.Path.{_≡_};
 ghost use Rattle.calls.specs.Answers.{answerNumbers};
-ghost use Rattle.judge.specs.Check.{checkOf};
+ghost use Rattle.plans.specs.Check.{checkOf};
 ghost use Rattle.judge.specs.Better.{fewer, betterOf, betterWords, lenderOf, verdictNumbers};
 use paging::Answer;
-use paging::Gate;
 use paging::Refusal;
 
 // Which plan, and its faults; or the first plan's refusal.
@@ -28,10 +27,7 @@ pub struct VerdictNumbers {
 pub fn check(m: u32, trace: &[u32], words: &[u32]) -> Answer
     ensures { λ r. ⌜ (r ≡ checkOf m (now (trace .entry)) (now (words .entry))) × (answerNumbers r ≡ answerNumbers (checkOf m (now (trace .entry)) (now (words .entry)))) ⌝ }
 {
-    match calls::lent_gate(calls::trace_gate(m, trace), trace.len(), words.len()) {
-        Gate::No(refusal) => Answer::Refused(refusal),
-        Gate::Open => plans::walked(m, trace, words),
-    }
+    plans::run(m, trace, words)
 }
 
 // The plan with fewer faults, of two answers of Check.

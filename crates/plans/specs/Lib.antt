@@ -1,2 +1,3 @@
--- What only private functions of the walk of a plan promise; what `walked` promises is `check` of the crate `paging`.
+-- What the walk of a plan is promised to answer; Devices has what only private functions promise.
+pub mod Check
 pub mod Devices

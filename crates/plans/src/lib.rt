@@ -1,4 +1,4 @@
-// The walk of a plan over its trace, which the service Check stands on: the pages held and their index are arrays of the walk's own.
+// What the service Check answers: the chain of refusals, then the walk of a plan over its trace, with the pages held and their index in arrays of its own.
 // What is wrong with an entry is said by one function, `judge_entry`; what it makes of the pages held is done by another, `store`.
 ghost use mathlib.Core.Path.{_≡_};
 ghost use Prim.Native.Nat.{_≤_};
@@ -10,10 +10,12 @@ ghost use Rattle.paging.specs.Calls.{requestLimit, frameLimit};
 ghost use Rattle.paging.specs.Plans.{judged, check};
 ghost use Rattle.paging.specs.declared.Gate.the-variants.{Open, No};
 ghost use Rattle.held.specs.Index.{Indexed};
+ghost use Rattle.plans.specs.Check.{checkOf};
 ghost use Rattle.plans.specs.Devices.{stepOf, settled, stepFaults, stepPages, Fits};
 use paging::Answer;
 use paging::Found;
 use paging::Frame;
+use paging::Gate;
 use paging::Moment;
 use paging::Page;
 use paging::Refusal;
@@ -106,8 +108,8 @@ fn store(
     }
 }
 
-// The faults of a plan from an empty cache, or 7 at the first entry that breaks the plan rule, where refusals 2, 3, 4 and 6 are not given.
-pub fn walked(m: u32, trace: &[u32], words: &[u32]) -> Answer
+// The walk of a plan from an empty cache, where refusals 2, 3, 4 and 6 are not given.
+fn walked(m: u32, trace: &[u32], words: &[u32]) -> Answer
     requires { ⌜ (m ≤ frameLimit) × (length (now trace) ≤ requestLimit) × (length (now trace) ≤ length (now words)) ⌝ }
     ensures { λ r. ⌜ r ≡ check m (now (trace .entry)) (now (words .entry)) ⌝ }
 {
@@ -130,4 +132,14 @@ pub fn walked(m: u32, trace: &[u32], words: &[u32]) -> Answer
         i += 1;
     }
     Answer::Faults(faults)
+}
+
+// The faults of the plan in the first T words; else refusal 2, 3, 4 or 6, or 7 at the first entry that breaks the rule.
+pub fn run(m: u32, trace: &[u32], words: &[u32]) -> Answer
+    ensures { λ r. ⌜ r ≡ checkOf m (now (trace .entry)) (now (words .entry)) ⌝ }
+{
+    match calls::lent_gate(calls::trace_gate(m, trace), trace.len(), words.len()) {
+        Gate::No(refusal) => Answer::Refused(refusal),
+        Gate::Open => walked(m, trace, words),
+    }
 }

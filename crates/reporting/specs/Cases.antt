@@ -7,7 +7,7 @@ use Prim.Native.Nat.{ℕ}
 use lib.ListN.{length}
 use Rattle.paging.specs.Rules.{mark}
 use Rattle.counts.specs.Counts.{countOf}
-use Rattle.judge.specs.Check.{checkOf}
+use Rattle.plans.specs.Check.{checkOf}
 use Rattle.bundle.specs.Bytes.{section}
 use Rattle.reading.specs.Reading.{readOf, fileRequests, filePlan}
 use Rattle.text.specs.Decimal.{digitAt, decimal}

@@ -11,7 +11,7 @@ use Rattle.paging.specs.declared.Answer.{Answer}
 use Rattle.paging.specs.declared.Answer.the-variants.{Faults, Refused}
 use Rattle.calls.specs.Answers.{answerNumbers}
 use Rattle.counts.specs.Counts.{countOf}
-use Rattle.judge.specs.Check.{checkOf}
+use Rattle.plans.specs.Check.{checkOf}
 use Rattle.reading.specs.Reading.{readOf, fileRequests, filePlan}
 use Rattle.reading.specs.declared.Sizes.{Sizes}
 use Rattle.reading.specs.declared.ReadAnswer.{ReadAnswer}

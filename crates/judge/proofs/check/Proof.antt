@@ -1,54 +1,16 @@
--- `judge::check` meets its contract: the chain of refusals, then the walk where the gate is open.
+-- `judge::check` meets its contract.
 -- Assumes nothing.
 use borrow.Author.Needs.{needs}
-use mathlib.Core.Path.{_≡_, refl, sym, ap, _∙_}
-use mathlib.Core.List.{_++_}
-use Rattle.paging.specs.Calls.{gate, traceTests, lentTests}
-use Rattle.calls.proofs.Chain.{gate-lent}
+use mathlib.Core.Path.{ap}
 use Rattle.calls.specs.Answers.{answerNumbers}
-use Rattle.judge.specs.Check.{checkOf}
-use Rattle.judge.proofs.Accepted.{open-exactly}
 use Rattle.judge.proofs.check.Statement.{statement}
 use Rattle.judge.proofs.check.Tie as tie
 
-gated : (c : tie.After-lent-gate)
-    → c .lent-gate .result
-    ≡ gate (traceTests (c .before .before .before .before .args .m) (c .before .before .before .before .args .trace .now)
-    ++ lentTests (c .before .before .before .before .args .trace .now) (c .before .before .before .before .args .words .now))
-gated c = rw (c .lent-gate .ensures, c .before .trace-gate .ensures) (gate-lent _ _ _)
-
-trace-gate-requires : tie.Need-trace-gate-requires
-trace-gate-requires c κs = search needs
-
-lent-gate-requires : tie.Need-lent-gate-requires
-lent-gate-requires c κs = search needs
-
-enum-known-refusal : tie.Need-enum-known-refusal
-enum-known-refusal c = search needs
-
-enum-told : tie.Need-enum-told
-enum-told c = search needs
-
-walked-requires : tie.Need-walked-requires
-walked-requires c κs =
-    let (o, l) = open-exactly _ _ _ .0 (sym (gated (c .before .before)) ∙ c .enum-told .given .1) in (o .frames, o .requests, l)
+run-requires : tie.Need-run-requires
+run-requires c κs = search needs
 
 returns : tie.Need-returns
-unfolding checkOf
-returns c = rw (← gated (c .before .before .before), c .before .refusal .given .1) (refl, refl)
-
-returns-2 : tie.Need-returns-2
-unfolding checkOf
-returns-2 c = rw (← gated (c .before .before .before), c .before .enum-told .given .1) (c .walked .ensures, ap answerNumbers (c .walked .ensures))
+returns c = (c .run .ensures, ap answerNumbers (c .run .ensures))
 
 pub check-spec : {M : Type 1} → statement M
-check-spec =
-    tie.close
-    (tie.spec
-    trace-gate-requires
-    lent-gate-requires
-    enum-known-refusal
-    enum-told
-    walked-requires
-    returns
-    returns-2)
+check-spec = tie.close (tie.spec run-requires returns)
