@@ -1,4 +1,4 @@
-//! The second program: every service of document 01, written in the plainest way.
+//! The second program: every service of document 01 and of the requests after it, in the plainest way.
 //! It exists to be compared with the proved program, so speed is of no interest here.
 
 // Plain loops are the point here, so the advice to shorten them is turned off.
@@ -15,10 +15,10 @@ mod words;
 pub use bundle::{read_bundle, write_bundle, ReadReply, WriteReply};
 pub use map::{lowest, ones};
 pub use plans::{better, better_words, check, Verdict};
-pub use record::{blank, feed, feed_own, fresh, sound, Fed, Outcome, Record};
+pub use record::{blank, feed, feed_own, frame_of, fresh, sound, Fed, Found, Outcome, Record};
 pub use report::report;
 pub use rules::{count, write_plan};
-pub use words::{feed_own_words, feed_words, fresh_words, sound_words, RECORD_WORDS};
+pub use words::{feed_own_words, feed_words, frame_words, fresh_words, sound_words, RECORD_WORDS};
 
 /// "No page" or "no moment", according to the field.
 pub const MARK: u32 = 4_294_967_295;

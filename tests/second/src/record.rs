@@ -1,4 +1,5 @@
-//! The cache record: the blank one, a fresh one, when one is sound, and how it is fed.
+//! The cache record: the blank one, a fresh one, when one is sound, how it is fed, and which
+//! frame holds a page.
 //! A cache of rule 1, 2 or 4 is fed one request at a time, going by the entries as they stand.
 
 use crate::map::{exactly_lowest, lowest_zero, ones, with};
@@ -41,6 +42,16 @@ pub struct Fed {
     pub kind: u32,
     pub page: u32,
     pub next: Record,
+}
+
+/// The answer of Frame. Held is 1 where a frame holds the page, and frame is its number.
+/// Where no frame holds it both are 0, and in a refusal too.
+#[derive(Clone, Copy, Debug, PartialEq, Eq)]
+pub struct Found {
+    pub number: u32,
+    pub place: u32,
+    pub held: u32,
+    pub frame: u32,
 }
 
 /// The blank record: zeros, no bit of the map set, and every entry all marks.
@@ -122,6 +133,35 @@ pub fn feed_own(record: &mut Record, page: u32) -> Outcome {
         place: fed.place,
         kind: fed.kind,
         page: fed.page,
+    }
+}
+
+/// Frame: the number of the frame that holds the page, or that none does.
+pub fn frame_of(record: &Record, page: u32) -> Found {
+    if !sound(record) {
+        return not_found(5);
+    }
+    if page == MARK {
+        return not_found(4);
+    }
+    match frame_of_page(record, page) {
+        Some(frame) => Found {
+            number: 0,
+            place: 0,
+            held: 1,
+            frame: frame as u32,
+        },
+        None => not_found(0),
+    }
+}
+
+/// No frame is told: with number 0 none holds the page, otherwise it is a refusal.
+pub(crate) fn not_found(number: u32) -> Found {
+    Found {
+        number,
+        place: 0,
+        held: 0,
+        frame: 0,
     }
 }
 

@@ -3,7 +3,7 @@
 //! Too few words are no record: 5 where one is read, 6 where one is written, after every other
 //! refusal; words that are too few stay as they were.
 
-use crate::record::{blank, feed_own, fresh, sound, Outcome, Record};
+use crate::record::{blank, feed_own, frame_of, fresh, not_found, sound, Found, Outcome, Record};
 use crate::{MARK, MOST_FRAMES};
 
 /// The words of a record.
@@ -57,6 +57,14 @@ pub fn feed_own_words(words: &mut [u32], page: u32) -> Outcome {
     let outcome = feed_own(&mut record, page);
     put(&record, words);
     outcome
+}
+
+/// Frame: the record is only read.
+pub fn frame_words(words: &[u32], page: u32) -> Found {
+    match record_in(words) {
+        Some(record) => frame_of(&record, page),
+        None => not_found(5),
+    }
 }
 
 /// The record in the first words, if they are enough.
