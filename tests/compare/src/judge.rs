@@ -1,5 +1,6 @@
 //! The proved program as it is called from outside: C functions, and a safe form of each.
-//! A list is a pointer and then its length; an answer goes into lent words of exactly its length.
+//! A list is a pointer and then its length; an answer goes into lent words of exactly its length,
+//! that of Frame into others too.
 
 extern "C" {
     /// answer: number, place, faults.
@@ -94,6 +95,16 @@ extern "C" {
     #[cfg(feature = "own-record")]
     fn hedravos_feed_own(
         record: *mut u32,
+        record_len: usize,
+        page: u32,
+        answer: *mut u32,
+        answer_len: usize,
+    );
+
+    /// record: 1,035 words, read. answer: number, place, held (1 or 0), frame.
+    #[cfg(feature = "records")]
+    fn hedravos_frame(
+        record: *const u32,
         record_len: usize,
         page: u32,
         answer: *mut u32,
@@ -275,6 +286,19 @@ pub fn feed_own(record: &mut [u32], page: u32, answer: &mut [u32]) {
     unsafe {
         hedravos_feed_own(
             record.as_mut_ptr(),
+            record.len(),
+            page,
+            answer.as_mut_ptr(),
+            answer.len(),
+        )
+    }
+}
+
+#[cfg(feature = "records")]
+pub fn frame(record: &[u32], page: u32, answer: &mut [u32]) {
+    unsafe {
+        hedravos_frame(
+            record.as_ptr(),
             record.len(),
             page,
             answer.as_mut_ptr(),

@@ -5,12 +5,16 @@
 mod bundles;
 mod calls;
 mod cases;
+#[cfg(feature = "records")]
+mod frames;
 mod judge;
 mod lent;
 #[cfg(feature = "records")]
 mod map_cases;
 #[cfg(feature = "self-check")]
 mod mirror;
+#[cfg(feature = "self-check")]
+mod mirror_frames;
 #[cfg(feature = "records")]
 mod record_cases;
 #[cfg(feature = "records")]
@@ -56,6 +60,12 @@ const GROUPS: &[Group] = &[
     ("short record", records::short_records),
     #[cfg(feature = "records")]
     ("short room", records::short_rooms),
+    #[cfg(feature = "records")]
+    ("frame", frames::frames),
+    #[cfg(feature = "records")]
+    ("damaged frame", frames::damaged_frames),
+    #[cfg(feature = "records")]
+    ("random frame", frames::random_frames),
     ("read", bundles::reads),
     ("cut", bundles::cuts),
     ("damaged file", bundles::damaged_files),
@@ -172,5 +182,37 @@ mod tests {
             sound += u32::from(second::sound(&map_cases::with_map(&record, map)[1]));
         }
         assert!((20..=180).contains(&sound), "{sound} of 200 sound");
+    }
+
+    /// How often a group's questions are answered by a frame, by none, by 4 and by 5; and whether
+    /// every frame is told.
+    fn answers(questions: fn(frames::Ask)) -> ([u32; 4], bool) {
+        let mut counts = [0; 4];
+        let mut told = [false; 256];
+        questions(&mut |given, page| {
+            let found = second::frame_words(given, page);
+            let kind = match (found.number, found.held) {
+                (0, 1) => 0,
+                (0, _) => 1,
+                (4, _) => 2,
+                _ => 3,
+            };
+            counts[kind] += 1;
+            told[found.frame as usize] |= kind == 0;
+        });
+        (counts, told.iter().all(|&told| told))
+    }
+
+    #[test]
+    fn frames_are_asked_for_every_answer() {
+        let (good, every) = answers(frames::good_questions);
+        assert!(good[..3].iter().all(|&count| count > 800), "{good:?}");
+        assert!(good[3] == 0 && every);
+        for questions in [frames::damaged_questions, frames::random_questions] {
+            let (counts, _) = answers(questions);
+            println!("{counts:?}");
+            assert!(counts.iter().all(|&count| count > 40), "{counts:?}");
+            assert!(counts[3] > 2_000, "{counts:?}");
+        }
     }
 }

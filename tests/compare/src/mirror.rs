@@ -1,5 +1,5 @@
 //! The second program behind the same C functions, so that the comparison can try itself.
-//! It can be told to make one mistake; the comparison must then find it.
+//! It can be told to make one mistake; the comparison must then find it. Frame has a file of its own.
 
 use crate::map_cases::{flipped, has, Map};
 use second::{lowest, ones, Outcome, Record, Reply, MARK, RECORD_WORDS};
@@ -9,13 +9,13 @@ use std::sync::atomic::{AtomicU32, Ordering};
 /// The mistake to make; 0 is none.
 pub static MISTAKE: AtomicU32 = AtomicU32::new(0);
 
-fn mistake(number: u32) -> bool {
+pub fn mistake(number: u32) -> bool {
     MISTAKE.load(Ordering::Relaxed) == number
 }
 
 /// Each mistake, the group of cases that must find it, and what it is.
 #[cfg(test)]
-pub const MISTAKES: [(u32, &str, &str); 61] = [
+pub const MISTAKES: [(u32, &str, &str); 78] = [
     (1, "count", "a hit renews a page in FIFO"),
     (2, "plan", "MIN drops the highest of the dead pages"),
     (3, "plan", "the word after the plan is written"),
@@ -149,18 +149,67 @@ pub const MISTAKES: [(u32, &str, &str); 61] = [
         "map",
         "the halves of a word change places in the next record",
     ),
+    (62, "frame", "an absent page is told as held in frame 0"),
+    (63, "frame", "the frame is one too high"),
+    (64, "frame", "a page in frame 0 is told as absent"),
+    (65, "frame", "the last held frame isn't looked at"),
+    (66, "frame", "the mark is found in a free frame"),
+    (67, "frame", "8 is told where 8,000 requests are served"),
+    (68, "frame", "only the low half of a page is compared"),
+    (69, "frame", "the record is fed, not only read"),
+    (
+        70,
+        "frame",
+        "too little room for an answer is refused with 6",
+    ),
+    (
+        71,
+        "frame",
+        "a word behind the four of an answer is written",
+    ),
+    (72, "damaged frame", "4 comes before 5"),
+    (
+        73,
+        "damaged frame",
+        "a page that only a free frame's entry has is found",
+    ),
+    (
+        74,
+        "damaged frame",
+        "as many frames are looked at as there are ones, gaps or not",
+    ),
+    (
+        75,
+        "damaged frame",
+        "of two frames with one page the first is told",
+    ),
+    (
+        76,
+        "damaged frame",
+        "1,034 words are searched as if a zero followed",
+    ),
+    (
+        77,
+        "random frame",
+        "the entries are searched, but not judged",
+    ),
+    (
+        78,
+        "damaged frame",
+        "a frame with a stray bit is told where its entry has the page",
+    ),
 ];
 
-unsafe fn list<'a, T>(start: *const T, length: usize) -> &'a [T] {
+pub unsafe fn list<'a, T>(start: *const T, length: usize) -> &'a [T] {
     from_raw_parts(start, length)
 }
 
-unsafe fn lent<'a, T>(start: *mut T, length: usize) -> &'a mut [T] {
+pub unsafe fn lent<'a, T>(start: *mut T, length: usize) -> &'a mut [T] {
     from_raw_parts_mut(start, length)
 }
 
 /// The record in words; past their end stand zeros.
-fn record_of(words: &[u32]) -> Record {
+pub fn record_of(words: &[u32]) -> Record {
     let word = |place: usize| words.get(place).copied().unwrap_or(0);
     let mut record = second::blank();
     record.rule = word(0);
@@ -554,7 +603,7 @@ fn mistakes_of_map(given: &Record, room: &mut [u32], told: &mut Outcome) {
 }
 
 /// A record's words with as many of the map's lowest bits set as it has ones.
-fn closed_up(words: &[u32]) -> Vec<u32> {
+pub fn closed_up(words: &[u32]) -> Vec<u32> {
     let mut record = record_of(words);
     record.map = lowest(ones(&record.map));
     crate::record_cases::words_of(&record)

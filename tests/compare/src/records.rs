@@ -97,7 +97,7 @@ fn compare_own_words(tally: &mut Tally, given: &[u32], page: u32) {
 fn compare_own_words(_tally: &mut Tally, _given: &[u32], _page: u32) {}
 
 /// The front of a record's words, and how many there are.
-fn tell(given: &[u32]) -> String {
+pub fn tell(given: &[u32]) -> String {
     format!(
         "{:?} of {} words",
         &given[..given.len().min(35)],
@@ -291,12 +291,12 @@ fn compare_map(tally: &mut Tally, record: &Record, map: Map) {
 }
 
 /// How many words are lent for a record: few, as before the map, one too few, enough, and more.
-const LENGTHS: [usize; 13] = [
+pub const LENGTHS: [usize; 13] = [
     0, 1, 3, 4, 10, 11, 100, 1_024, 1_028, 1_034, 1_035, 1_036, 1_100,
 ];
 
 /// So many words of a record; past its end some others.
-fn cut_to(rng: &mut Rng, record: &Record, length: usize) -> Vec<u32> {
+pub fn cut_to(rng: &mut Rng, record: &Record, length: usize) -> Vec<u32> {
     let mut given = words_of(record);
     while given.len() < length {
         given.push(rng.word());
@@ -306,7 +306,7 @@ fn cut_to(rng: &mut Rng, record: &Record, length: usize) -> Vec<u32> {
 }
 
 /// The words of a record before the map: the number of held frames stood in its place.
-fn with_a_number(record: &Record) -> Vec<u32> {
+pub fn with_a_number(record: &Record) -> Vec<u32> {
     let held = second::ones(&record.map);
     let mut given = vec![record.rule, record.frames, record.clock, held];
     given.extend(record.entries.iter().flatten());
