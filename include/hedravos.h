@@ -58,7 +58,7 @@ enum {
     HEDRAVOS_UNKNOWN_RULE = 1,       /* the rule isn't 1 to 4; for hedravos_fresh, 1, 2 or 4 */
     HEDRAVOS_FRAMES_OUTSIDE = 2,     /* the frames aren't 1 to 256 */
     HEDRAVOS_TRACE_TOO_LONG = 3,     /* more than 8,000 requests */
-    HEDRAVOS_MARK_REQUESTED = 4,     /* a request is the mark */
+    HEDRAVOS_MARK_REQUESTED = 4,     /* a request, or a page asked about, is the mark */
     HEDRAVOS_UNSOUND_RECORD = 5,     /* the record isn't sound */
     HEDRAVOS_LENT_TOO_SHORT = 6,     /* a lent list is too short */
     HEDRAVOS_PLAN_BROKEN = 7,        /* a plan's entry breaks the plan rule */
@@ -159,6 +159,16 @@ void hedravos_feed(const uint32_t *cache, size_t cache_length,
 void hedravos_feed_own(uint32_t *cache, size_t cache_length,
                        uint32_t page,
                        uint32_t *answer, size_t answer_length);
+
+/*
+ * Says which frame holds a page, or that none does. In a sound record at most one does, so the answer is the only one:
+ * a number below that of the occupied frames, whose entry has the page. The record is only read.
+ * answer: number, place, held (1 where a frame holds the page, else 0), frame (its number; 0 where none holds it).
+ * Refusals: 5 (also fewer than 1,035 words), 4 (place 0).
+ */
+void hedravos_frame(const uint32_t *cache, size_t cache_length,
+                    uint32_t page,
+                    uint32_t *answer, size_t answer_length);
 
 /*
  * Reads a bundle file: its requests and its plan go to the front of two lists, whose other words stay.

@@ -184,6 +184,7 @@ def the_orders():
         "sound": [],
         "feed": [([], MARK, []), (full, MARK, []), (full, 5, []), (fine, 5, [])],
         "feed_own": [([], MARK), (full, MARK), (full, 5)],
+        "frame": [([], MARK), (full, MARK)],
         "read": [
             (b"", [], []),
             (struct.pack("<I", 3), [], []),
@@ -221,6 +222,11 @@ def lowest(held):
 
 def called(library, name, *arguments):
     """The number that a function answers."""
+    return answered(library, name, *arguments)[0]
+
+
+def answered(library, name, *arguments):
+    """The six words that are lent for an answer, as the function leaves them."""
     sent = []
     for argument in (*arguments, [0] * 6):
         if isinstance(argument, int):
@@ -229,7 +235,7 @@ def called(library, name, *arguments):
             kind = ctypes.c_uint8 if isinstance(argument, bytes) else ctypes.c_uint32
             sent += [(kind * len(argument))(*argument), ctypes.c_size_t(len(argument))]
     getattr(library, f"hedravos_{name}")(*sent)
-    return sent[-2][0]
+    return list(sent[-2])
 
 
 def planned(library, rule, n, requests):
@@ -280,8 +286,8 @@ def the_dump():
     case("the dump is sound", called(library, "sound", words) == 1)
     for cell, why in damaged:
         wrong = words[:3] + in_hexadecimal(cell) + words[11:]
-        numbers = len(wrong) - len(words), called(library, "sound", wrong), called(library, "feed_own", wrong, 5)
-        case(f"damaged: {why}", wrong != words and numbers == (0, 0, 5), str(numbers))
+        numbers = called(library, "sound", wrong), called(library, "feed_own", wrong, 5), called(library, "frame", wrong, 5)
+        case(f"damaged: {why}", wrong != words and len(wrong) == len(words) and numbers == (0, 5, 5), str(numbers))
     ones = [sum(bin(word).count("1") for word in in_hexadecimal(cell)) for cell, _ in damaged]
     case("the first six have two ones", ones == [2] * 6 + [1, 3])
     the_shapes(list(fed(library, 4, 256, range(257))), shapes)
@@ -306,8 +312,23 @@ def the_older(library, words):
     """The same record in the older form, which has a number in place of the map."""
     older = words[:3] + [2] + words[11:]
     for form in (older, older + [MARK] * 7, older + [0] * 7):
-        case("an older record", called(library, "feed_own", form, 5) == 5)
+        case("an older record", called(library, "feed_own", form, 5) == called(library, "frame", form, 5) == 5)
     case("an older record with a map in place", len(older) == 1028 and older[:3] + lowest(older[3]) + older[4:] == words)
+
+
+def the_frames():
+    """The frame of a page, as the record's words have it: along a run of each rule, and with the last request served."""
+    library = ctypes.CDLL(str(LIBRARY / "libhedravos.so"))
+    for rule in (1, 2, 4):
+        wrong = []
+        for words in fed(library, rule, 3, [5, 6, 7, 5, 8, 6, 5, 7]):
+            for page in (0, 3, 5, 6, 7, 8, 9, MARK - 1):
+                frames = [frame for frame in range(3) if words[11 + 4 * frame] == page]
+                if answered(library, "frame", words, page) != [0, 0, len(frames), *(frames or [0]), 0, 0]:
+                    wrong.append((words[2], page))
+        case(f"the frames of rule {rule}", not wrong, str(wrong))
+    full = record(8000)
+    case("asked after the last request", [answered(library, "frame", full, page)[:4] for page in (5, 6)] == [[0, 0, 1, 0], [0] * 4])
 
 
 # ---- Commands and programs ----
@@ -345,9 +366,21 @@ fresh 6 0
 sound 0
 feed 5 0 0 4294967295
 feed_own 5 0 0 4294967295
+frame 5 0 0 0
 read 9 0 0 0 0 0
 write 6 0 0
 report 0
+"""
+
+TILES = """\
+5 into 0
+6 into 1
+7 into 2
+5 in 0
+8 into 1
+6 into 2
+5 in 0
+7 into 1
 """
 
 STRICT = ["-pedantic", "-Wall", "-Wextra", "-Werror", "-I", str(ROOT / "include")]
@@ -361,6 +394,8 @@ def in_c():
             case(f"empty lists with {library}", shown[:2] == (0, EMPTY), str(shown))
             shown = shell(compiled("tests/callers/host.c", "c11", library, folder))
             case(f"threads, children and signals with {library}", shown == (0, "fine\n", ""), str(shown))
+            shown = shell(compiled("tests/callers/tiles.c", "c11", library, folder))
+            case(f"tiles in places with {library}", shown == (0, TILES, ""), str(shown))
     languages = [("c99", "cc", "c"), ("c17", "cc", "c")] + [("c++17", "c++", "c++")] * bool(shutil.which("c++"))
     for standard, compiler, language in languages:
         made = subprocess.run([compiler, f"-std={standard}", *STRICT, "-fsyntax-only", "-x", language, "-"], input=b'#include "hedravos.h"\n')
@@ -399,4 +434,4 @@ def counts(program):
 
 if __name__ == "__main__":
     subprocess.run([str(ROOT / "tools/library")], check=True, stdout=subprocess.DEVNULL)
-    sys.exit(run(the_header, the_tables, the_orders, the_examples, the_dump, the_lines, in_c))
+    sys.exit(run(the_header, the_tables, the_orders, the_examples, the_dump, the_frames, the_lines, in_c))

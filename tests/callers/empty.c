@@ -31,6 +31,8 @@ int main(void) {
     show("feed", 4);
     hedravos_feed_own(NULL, 0, 5, answer, 8);
     show("feed_own", 4);
+    hedravos_frame(NULL, 0, 5, answer, 8);
+    show("frame", 4);
     hedravos_read(NULL, 0, NULL, 0, NULL, 0, answer, 8);
     show("read", 6);
     hedravos_write(3, 2, NULL, 0, NULL, 0, NULL, 0, answer, 8);
@@ -39,6 +41,7 @@ int main(void) {
     show("report", 1);
     /* Without room for an answer nothing is told, and nothing goes wrong. */
     hedravos_count(HEDRAVOS_LRU, 0, NULL, 0, NULL, 0);
+    hedravos_frame(NULL, 0, HEDRAVOS_MARK, NULL, 0);
     hedravos_report(NULL, 0, NULL, 0, NULL, 0);
     return 0;
 }

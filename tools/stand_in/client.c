@@ -196,6 +196,10 @@ void hedravos_feed_own(uint32_t *cache, size_t cache_length, uint32_t page, uint
     ask("feed_own", NUMBERS(page), LISTS(WRITTEN(cache), WRITTEN(answer)));
 }
 
+void hedravos_frame(const uint32_t *cache, size_t cache_length, uint32_t page, uint32_t *answer, size_t answer_length) {
+    ask("frame", NUMBERS(page), LISTS(KEPT(cache), WRITTEN(answer)));
+}
+
 void hedravos_read(const uint8_t *bytes, size_t bytes_length, uint32_t *requests, size_t requests_length,
                    uint32_t *plan, size_t plan_length, uint32_t *answer, size_t answer_length) {
     ask("read", NO_NUMBERS, LISTS(KEPT(bytes), WRITTEN(requests), WRITTEN(plan), WRITTEN(answer)));

@@ -102,6 +102,7 @@ static int called(void) {
     if (is("sound")) return hedravos_sound(LIST(0), LIST(1)), 1;
     if (is("feed")) return hedravos_feed(LIST(0), NUMBER(0), LIST(1), LIST(2)), 1;
     if (is("feed_own")) return hedravos_feed_own(LIST(0), NUMBER(0), LIST(1)), 1;
+    if (is("frame")) return hedravos_frame(LIST(0), NUMBER(0), LIST(1)), 1;
     if (is("read")) return hedravos_read(LIST(0), LIST(1), LIST(2), LIST(3)), 1;
     if (is("write")) return hedravos_write(NUMBER(0), NUMBER(1), LIST(0), LIST(1), LIST(2), LIST(3)), 1;
     if (is("report")) return hedravos_report(LIST(0), LIST(1), LIST(2)), 1;
