@@ -23,6 +23,10 @@ pub fn sound(_: &[u32]) -> bool {
     unreachable!()
 }
 
+pub fn frames_of(_: &[u32], _: &[u32], _: &mut [u32]) -> u32 {
+    unreachable!()
+}
+
 pub fn report(_: &[u8]) -> String {
     unreachable!()
 }

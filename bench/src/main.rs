@@ -82,7 +82,7 @@ fn works(trace: &[u32]) -> Vec<(String, Work<'_>, Work<'_>)> {
         }
     }
     #[cfg(feature = "records")]
-    list.push(sound_work(trace));
+    list.extend([sound_work(trace), frame_work(trace)]);
     #[cfg(feature = "report")]
     list.push(report_work(trace));
     list
@@ -119,6 +119,19 @@ fn sound_work(trace: &[u32]) -> (String, Work<'_>, Work<'_>) {
 fn times_sound(record: &[u32], sound: fn(&[u32]) -> bool) -> u32 {
     let judged = (0..REQUESTS).filter(|_| sound(black_box(record)));
     judged.count() as u32
+}
+
+/// The same record, asked for the frame of each page of the trace; the tuned program has an index.
+#[cfg(feature = "records")]
+fn frame_work(trace: &[u32]) -> (String, Work<'_>, Work<'_>) {
+    let mut room = empty_room();
+    tuned::feed_all(tuned::LRU, FRAMES, trace, &mut room.words, &mut room.record);
+    let index = record::Index::of(&room.record);
+    (
+        "frame".to_string(),
+        Box::new(move |to| ours::frames_of(&room.record, trace, &mut to.words)),
+        Box::new(move |to| index.frames_of(trace, &mut to.words)),
+    )
 }
 
 fn check_work(trace: &[u32]) -> (String, Work<'_>, Work<'_>) {

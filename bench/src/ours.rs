@@ -2,6 +2,8 @@
 //! Each answers its faults; words and text go where the tuned program puts them too.
 
 use crate::judge;
+#[cfg(feature = "records")]
+use crate::tuned::MARK;
 
 pub const THERE: bool = true;
 
@@ -51,6 +53,20 @@ pub fn sound(record: &[u32]) -> bool {
     let mut answer = [0];
     judge::sound(record, &mut answer);
     answer[0] == 1
+}
+
+/// The frame of each page, or the mark, and how many are held.
+#[cfg(feature = "records")]
+pub fn frames_of(record: &[u32], pages: &[u32], words: &mut [u32]) -> u32 {
+    let mut held = 0;
+    for (word, &page) in words.iter_mut().zip(pages) {
+        let mut answer = [0; 4];
+        judge::frame(record, page, &mut answer);
+        assert_eq!(answer[0], 0, "refused: {answer:?}");
+        held += answer[2];
+        *word = if answer[2] == 1 { answer[3] } else { MARK };
+    }
+    held
 }
 
 #[cfg(feature = "report")]

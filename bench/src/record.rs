@@ -1,7 +1,8 @@
-//! A cache record in words, as the tuned program keeps one while it feeds, and its soundness.
+//! A cache record in words, as the tuned program keeps one while it feeds, its soundness, and an
+//! index of its pages.
 //! Rule, frames, clock, the map of occupied frames (eight words, low bits first), then the entries.
 
-use crate::tuned::{Did, FIFO, LRU, LRU_2, MARK};
+use crate::tuned::{ByPage, Did, FIFO, LRU, LRU_2, MARK};
 
 const CLOCK: usize = 2;
 const MAP: usize = 3;
@@ -79,6 +80,29 @@ pub fn sound(words: &[u32]) -> bool {
     }
     let (used, free) = words[ENTRIES..RECORD_WORDS].split_at(4 * held as usize);
     free.iter().all(|&word| word == MARK) && pages_differ(used) && moments_fit(used, clock)
+}
+
+/// The frame of each held page of a record, kept beside it.
+pub struct Index(ByPage<u32>);
+
+impl Index {
+    /// Of a sound record.
+    pub fn of(words: &[u32]) -> Index {
+        let held = lowest_ones(&words[MAP..ENTRIES]).expect("the lowest bits and no other");
+        let used = words[ENTRIES..].chunks_exact(4).take(held as usize);
+        Index(used.map(|entry| entry[0]).zip(0..).collect())
+    }
+
+    /// The frame of each page, or the mark, and how many are held.
+    pub fn frames_of(&self, pages: &[u32], words: &mut [u32]) -> u32 {
+        let mut held = 0;
+        for (word, page) in words.iter_mut().zip(pages) {
+            let frame = self.0.get(page);
+            held += u32::from(frame.is_some());
+            *word = frame.copied().unwrap_or(MARK);
+        }
+        held
+    }
 }
 
 /// How many bits of the map are set, if they are exactly the lowest.
@@ -231,6 +255,42 @@ mod tests {
                 flipped[MAP + bit / 32] ^= 1 << (bit % 32);
                 assert!(!sound(&flipped), "{held} held, bit {bit}");
             }
+        }
+    }
+
+    /// The frames of these pages, against the second program.
+    fn ask(record: &[u32], pages: &[u32]) -> u32 {
+        let mut words = vec![7; pages.len()];
+        let held = Index::of(record).frames_of(pages, &mut words);
+        let expected = pages.iter().map(|&page| second::frame_words(record, page));
+        let frame = |found: second::Found| match (found.number, found.held) {
+            (0, 1) => found.frame,
+            (0, _) => MARK,
+            _ => panic!("refused"),
+        };
+        let expected: Vec<u32> = expected.map(frame).collect();
+        assert_eq!(words, expected, "{record:?}");
+        let absent = words.iter().filter(|&&word| word == MARK).count();
+        assert_eq!(held as usize + absent, pages.len());
+        held
+    }
+
+    #[test]
+    fn frames() {
+        let mut counts = [0, 0];
+        each_trace(400, |lot, n, trace| {
+            let rule = [LRU, FIFO, LRU_2][lot.below(3) as usize];
+            let mut pages = trace.to_vec();
+            pages.extend([0, MARK - 1, lot.below(1 << 31)]);
+            let held = ask(&fed(rule, n, trace), &pages);
+            counts[0] += held;
+            counts[1] += pages.len() as u32 - held;
+        });
+        assert!(counts.iter().all(|&count| count > 5_000), "{counts:?}");
+        let pages: Vec<u32> = (0..300).map(|page| 9 * page).collect();
+        for held in [0, 1, 64, 255, 256] {
+            let record = fed(LRU, 256, &pages[..held]);
+            assert_eq!(ask(&record, &pages) as usize, held);
         }
     }
 

@@ -17,7 +17,9 @@ pub const LRU_2: u32 = 4;
 
 /// One multiplication; pages are no enemy's choice, so more isn't needed.
 #[derive(Default)]
-struct PageHasher(u64);
+pub struct PageHasher(u64);
+
+pub type ByPage<T> = HashMap<u32, T, BuildHasherDefault<PageHasher>>;
 
 impl Hasher for PageHasher {
     fn finish(&self) -> u64 {
@@ -37,7 +39,7 @@ impl Hasher for PageHasher {
 /// Each page met gets the next small number; all tables below go by these.
 #[derive(Default)]
 struct Names {
-    numbers: HashMap<u32, u32, BuildHasherDefault<PageHasher>>,
+    numbers: ByPage<u32>,
     pages: Vec<u32>,
 }
 
