@@ -240,6 +240,27 @@ pub fn betters(tally: &mut Tally) {
     }
 }
 
+/// Pages that an index can't tell apart by their hashes, in every call.
+pub fn shared_hashes(tally: &mut Tally) {
+    let mut rng = Rng::new(108);
+    for case in 0..1_500 {
+        let (most, n) = match case % 50 {
+            0 => (700, rng.between(60, 256) as u32),
+            _ => (60, rng.between(1, 9) as u32),
+        };
+        let t = cases::length(&mut rng, most);
+        let mut trace = cases::trace(&mut rng, t, n);
+        cases::crowd(&mut rng, &mut trace);
+        compare_count(tally, rng.between(1, 4) as u32, n, &trace);
+        let room = plan_room(&mut rng, t);
+        compare_plan(tally, 3, n, &trace, &room);
+        let plan = cases::lent_plan(&mut rng, n, &trace);
+        compare_check(tally, n, &trace, &plan);
+        let other = cases::somebodys_plan(&mut rng, n, &trace);
+        compare_better(tally, n, &trace, &plan, &other);
+    }
+}
+
 /// Traces of 7,999, 8,000 and 8,001 requests in every call, with few frames and with many.
 pub fn longest(tally: &mut Tally) {
     let mut rng = Rng::new(106);

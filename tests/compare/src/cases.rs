@@ -157,6 +157,27 @@ fn name_pages(rng: &mut Rng, shape: &mut [u32]) {
     }
 }
 
+/// The same requests for other pages: those of one hash or of a few, or with low bits alike. A hash
+/// is what an index might go by, the top eleven bits of a product by 2,654,435,761.
+pub fn crowd(rng: &mut Rng, trace: &mut [u32]) {
+    let mut pages: Vec<u32> = trace.to_vec();
+    pages.sort();
+    pages.dedup();
+    let first = rng.below(2_048) as u32;
+    let few = rng.pick(&[1, 1, 2, 5]);
+    let alike = rng.one_in(6);
+    for page in trace.iter_mut() {
+        let number = pages.binary_search(page).unwrap() as u32;
+        *page = if alike {
+            number << 16 | first
+        } else {
+            // The product undone: its top bits are the hash, the others tell the pages apart.
+            let hash = (first + number % few) % 2_048;
+            (hash << 21 | number).wrapping_mul(244_002_641)
+        };
+    }
+}
+
 /// Any words at all, with the highest page and, if allowed, the mark among them.
 pub fn random_words(rng: &mut Rng, length: usize, marks: bool) -> Vec<u32> {
     let mut list = Vec::with_capacity(length);

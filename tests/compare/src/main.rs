@@ -34,6 +34,7 @@ const GROUPS: &[Group] = &[
     ("plan", calls::plans),
     ("check", calls::checks),
     ("better", calls::betters),
+    ("shared hash", calls::shared_hashes),
     ("longest", calls::longest),
     ("largest", calls::largest),
     #[cfg(feature = "records")]
@@ -182,6 +183,35 @@ mod tests {
             sound += u32::from(second::sound(&map_cases::with_map(&record, map)[1]));
         }
         assert!((20..=180).contains(&sound), "{sound} of 200 sound");
+    }
+
+    /// Other pages at the same moments, of few hashes or with sixteen low bits alike.
+    #[test]
+    fn crowds_are_what_they_should_be() {
+        let mut rng = cases::Rng::new(1);
+        let distinct = |mut list: Vec<u32>| {
+            list.sort();
+            list.dedup();
+            list.len()
+        };
+        let mut of_one_hash = 0;
+        for _ in 0..200 {
+            let before = cases::trace(&mut rng, 60, 9);
+            let mut after = before.clone();
+            cases::crowd(&mut rng, &mut after);
+            let pairs = before.iter().zip(&after).map(|(one, other)| [*one, *other]);
+            let mut pairs: Vec<[u32; 2]> = pairs.collect();
+            pairs.sort();
+            pairs.dedup();
+            assert_eq!(pairs.len(), distinct(before));
+            assert_eq!(pairs.len(), distinct(after.clone()));
+            assert!(!after.contains(&second::MARK));
+            let hashes = distinct(after.iter().map(|&page| mirror::hash(page)).collect());
+            let low = distinct(after.iter().map(|&page| page & 0xFFFF).collect());
+            assert!(hashes <= 5 || low == 1);
+            of_one_hash += u32::from(hashes == 1 && pairs.len() > 1);
+        }
+        assert!(of_one_hash > 50, "{of_one_hash} of 200");
     }
 
     /// How often a group's questions are answered by a frame, by none, by 4 and by 5; and whether

@@ -15,7 +15,7 @@ pub fn mistake(number: u32) -> bool {
 
 /// Each mistake, the group of cases that must find it, and what it is.
 #[cfg(test)]
-pub const MISTAKES: [(u32, &str, &str); 78] = [
+pub const MISTAKES: [(u32, &str, &str); 80] = [
     (1, "count", "a hit renews a page in FIFO"),
     (2, "plan", "MIN drops the highest of the dead pages"),
     (3, "plan", "the word after the plan is written"),
@@ -198,6 +198,16 @@ pub const MISTAKES: [(u32, &str, &str); 78] = [
         "damaged frame",
         "a frame with a stray bit is told where its entry has the page",
     ),
+    (
+        79,
+        "shared hash",
+        "in Check a page is taken for another with its hash",
+    ),
+    (
+        80,
+        "shared hash",
+        "in MIN a page is taken for another with its hash",
+    ),
 ];
 
 pub unsafe fn list<'a, T>(start: *const T, length: usize) -> &'a [T] {
@@ -322,7 +332,7 @@ unsafe extern "C" fn hedravos_plan(
 ) {
     let requests = list(trace, trace_len);
     let room = lent(words, words_len);
-    let reply = second::write_plan(rule, n, requests, room);
+    let mut reply = second::write_plan(rule, n, requests, room);
     if mistake(2) && rule == second::MIN && reply.number == 0 {
         // Turned round, the highest page number is the lowest.
         let turned: Vec<u32> = requests.iter().map(|&page| MARK - 1 - page).collect();
@@ -333,6 +343,9 @@ unsafe extern "C" fn hedravos_plan(
             }
         }
     }
+    if mistake(80) && rule == second::MIN && reply.number == 0 {
+        reply = second::count(rule, n, &hashed(requests));
+    }
     if mistake(3) && reply.number == 0 && words_len > trace_len {
         room[trace_len] = MARK;
     }
@@ -340,6 +353,19 @@ unsafe extern "C" fn hedravos_plan(
         room[0] = MARK;
     }
     put(lent(answer, answer_len), reply);
+}
+
+/// Hashes in place of pages, as an index might take them.
+fn hashed(pages: &[u32]) -> Vec<u32> {
+    let hash_or_mark = |&page: &u32| match page {
+        MARK => MARK,
+        _ => hash(page),
+    };
+    pages.iter().map(hash_or_mark).collect()
+}
+
+pub fn hash(page: u32) -> u32 {
+    page.wrapping_mul(2_654_435_761) >> 21
 }
 
 #[no_mangle]
@@ -355,6 +381,9 @@ unsafe extern "C" fn hedravos_check(
     let requests = list(trace, trace_len);
     let plan = list(words, words_len);
     let mut reply = second::check(m, requests, plan);
+    if mistake(79) && reply.number == 0 {
+        reply = second::check(m, &hashed(requests), &hashed(plan));
+    }
     if mistake(7) && reply.number == 7 {
         let moment = reply.place as usize;
         if plan[moment] == requests[moment] {
