@@ -116,12 +116,13 @@ fn lowest_ones(map: &[u32]) -> Option<u32> {
     exactly.then_some(32 * full as u32 + ones)
 }
 
-/// A table twice as large as the most pages; a page's place, or the next that is free.
+/// A table twice as large as the most pages; a page's place, or the next that is free. The factor isn't
+/// that of the proved program's index, so that pages which crowd there don't crowd here.
 fn pages_differ(used: &[u32]) -> bool {
     let mut table = [MARK; 2 * FRAMES];
     used.chunks_exact(4).all(|entry| {
         let page = entry[0];
-        let mut place = page.wrapping_mul(0x9E37_79B1) as usize >> 23;
+        let mut place = page.wrapping_mul(0xCC9E_2D51) as usize >> 23;
         while table[place] != MARK && table[place] != page {
             place = (place + 1) % table.len();
         }
