@@ -161,8 +161,8 @@ void hedravos_feed_own(uint32_t *cache, size_t cache_length,
                        uint32_t *answer, size_t answer_length);
 
 /*
- * Says which frame holds a page, or that none does. In a sound record at most one does, so the answer is the only one:
- * a number below that of the occupied frames, whose entry has the page. The record is only read.
+ * Says which frame holds a page, or that none does. In a sound record at most one does, so the answer is the only one.
+ * The frame told is below the number of occupied frames, and its entry has the page. The record is only read.
  * answer: number, place, held (1 where a frame holds the page, else 0), frame (its number; 0 where none holds it).
  * Refusals: 5 (also fewer than 1,035 words), 4 (place 0).
  */
