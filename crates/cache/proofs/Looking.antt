@@ -23,7 +23,6 @@ use Rattle.paging.specs.declared.Refusal.the-variants.{UnsoundRecord, MarkReque
 use Rattle.paging.proofs.Held.{found-there, there-found, found-has, found-only, absent-exactly}
 use Rattle.paging.proofs.Frames.{pages-length, pages-at, mem-pages, Ways, ways, outcome-hit, outcome-room, outcome-full}
 use Rattle.cache.specs.declared.Cache.{Cache}
-use Rattle.cache.specs.declared.Lookup.{Lookup}
 use Rattle.cache.specs.declared.Lookup.the-variants.{At, Absent, Refused}
 use Rattle.cache.specs.declared.Reply.the-variants.{Hit}
 use Rattle.cache.specs.declared.Fed.{Fed}

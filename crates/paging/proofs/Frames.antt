@@ -12,7 +12,7 @@ use lib.Dec.{eqb, ltb}
 use lib.ListN.{length, getD, set, take, drop, length-set, length-map}
 use lib.Seq.{map-set-same, take-suc, drop-cons}
 use borrow.Author.Tests.{lt-ltb, le-ltb, ltb-true, ltb-false}
-use Rattle.paging.specs.Rules.{Sees, between, chosen}
+use Rattle.paging.specs.Rules.{Sees, chosen}
 use Rattle.paging.specs.Walk.{holds, zeroEntry, entryAt, pages, loadedAt, renewed, outcome, next, outcomes, seesAt, entriesAt}
 use Rattle.paging.specs.Lists.{pick, any, indexOf, mem, placeOf}
 use Rattle.paging.specs.Held.{ifHeld, heldAfter}
@@ -38,7 +38,7 @@ pages-at es i = getD-map (λ (e : Entry). e .page .0) zeroEntry es i
 -- a page is held where it stands among the pages
 pub mem-pages : (p : ℕ) (es : List Entry) → mem p (pages es) ≡ holds p es
 unfolding holds
-mem-pages p es = go (mem p (pages es)) 
+mem-pages p es = go (mem p (pages es))
   where
     go : (b : Bool) → b ≡ ifHeld (pick b (At (record { 0 = placeOf p (pages es) })) Absent) (λ (f : ℕ). true) false
     go true = refl
