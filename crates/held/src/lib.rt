@@ -4,15 +4,18 @@
 // `pages` has the page of each frame, of which the first `held` are in use.
 // `counts` has for each hash how many held pages have it; `hints` a frame where a page of that hash was put last, which is only a guess.
 ghost use mathlib.Core.Path.{_≡_};
+ghost use mathlib.Core.Logic.{_⊎_};
 ghost use mathlib.Core.List.{_∷_, [], _++_};
-ghost use Prim.Native.Nat.{_+_, _<_};
+ghost use Prim.Native.Nat.{_+_, _≤_, _<_};
 ghost use lib.ListN.{take, set};
 ghost use Rattle.paging.specs.Calls.{frameLimit};
 ghost use Rattle.paging.specs.Held.{found};
-ghost use Rattle.paging.specs.declared.Found.the-variants.{Absent};
+ghost use Rattle.paging.specs.declared.Found.the-variants.{At, Absent};
 ghost use Rattle.held.specs.Index.{hashes, hashOf, Indexed};
+ghost use Rattle.held.specs.Placing.{putOutcome, putPages, putCount};
 use paging::Found;
 use paging::Frame;
+use paging::Outcome;
 use paging::Page;
 
 // How many pages there is room for, and how many hashes there are.
@@ -89,4 +92,31 @@ pub fn replace(
     counts[comes] = counts[comes] + 1;
     hints[comes] = frame.0 as u8;
     pages[at] = page.0;
+}
+
+// A page put into a frame: a hit, if it stands there already.
+pub fn put(
+    page: Page,
+    frame: Frame,
+    held: usize,
+    pages: &mut [u32],
+    counts: &mut [u16],
+    hints: &mut [u8],
+) -> Outcome
+    requires { ⌜ (Indexed held (now pages) (now counts) (now hints)) × (frame .0 ≤ held) × (frame .0 < frameLimit) × ((found (page .0) (take held (now pages)) ≡ At frame) ⊎ (found (page .0) (take held (now pages)) ≡ Absent)) ⌝ }
+    ensures told { λ r. ⌜ r ≡ putOutcome (page .0) (frame .0) (take held (now (pages .entry))) ⌝ }
+    ensures index { λ r. ⌜ Indexed (putCount (frame .0) held) (now (pages .exit)) (now (counts .exit)) (now (hints .exit)) ⌝ }
+    ensures pages { λ r. ⌜ take (putCount (frame .0) held) (now (pages .exit)) ≡ putPages (page .0) (frame .0) (take held (now (pages .entry))) ⌝ }
+{
+    let at = frame.0 as usize;
+    if held <= at {
+        load(page, held, pages, counts, hints);
+        return Outcome::Loaded;
+    }
+    let old = pages[at];
+    if old == page.0 {
+        return Outcome::Hit;
+    }
+    replace(page, frame, held, pages, counts, hints);
+    Outcome::Dropped(Page(old))
 }

@@ -1,25 +1,28 @@
 -- MIN's walk over pages alone is the walk of rule 3; and the page that goes first is unique.
 -- Assumes nothing.
 use mathlib.Core.Path.{_≡_, refl, sym, ap, ap₂, _∙_}
-use mathlib.Core.Logic.{_⊎_, inl, inr, ⊎-elim}
+use mathlib.Core.Logic.{⊎-elim}
 use mathlib.Core.Bool.{Bool, true, false}
 use mathlib.Core.List.{List, [], _∷_, _++_}
 use Prim.Native.Nat.{ℕ, suc, _+_, _≤_, _<_}
 use native.Mathlib.Omega.{arith}
 use lib.Dec.{eqb, leb}
 use lib.ListN.{length, getD}
-use borrow.Author.Tests.{lt-ltb, le-ltb, leb-true, le-leb, eqb-true, eqb-false, ne-eqb}
+use borrow.Author.Tests.{leb-true, le-leb, eqb-true, eqb-false, ne-eqb}
 use Rattle.paging.specs.Lists.{both, implies, all, placeOf}
 use Rattle.paging.specs.Rules.{Sees, between, nextOf, never, minDrops, drops, chosen}
 use Rattle.paging.specs.Walk.{pages, outcome, next, outcomes}
+use Rattle.paging.specs.Held.{heldAfter}
+use Rattle.paging.specs.declared.Found.the-variants.{At}
 use Rattle.paging.specs.declared.Entry.{Entry}
 use Rattle.paging.specs.declared.Rule.the-variants.{Min}
 use Rattle.paging.specs.declared.Outcome.{Outcome}
 use Rattle.paging.proofs.Lists.{bool-cases, both-first, both-second, both-true, implied, implies-true, all-at, at-all, all-map, index-map, index-same, index-is, index-passes}
 use Rattle.paging.proofs.Choice.{next-le, never-next}
 use Rattle.paging.specs.Meanings.{Apart}
-use Rattle.paging.proofs.Frames.{pages-length, pages-at, mem-pages, Ways, ways, pages-hit, pages-room, pages-full}
+use Rattle.paging.proofs.Frames.{pages-length, pages-at, pages-after}
 use Rattle.minimum.specs.Devices.Farthest.{goesFirst, farthest, minOutcome, minNext, minOutcomes}
+use Rattle.minimum.specs.Devices.Turns.{Behind}
 
 -- ---- the walk
 
@@ -38,17 +41,11 @@ chosen-same sees es =
 
 outcome-same : (n p : ℕ) (sees : Sees) (es : List Entry) → outcome Min n p sees es ≡ minOutcome n p (sees .rest) (pages es)
 unfolding outcome minOutcome
-outcome-same n p sees es =
-    rw (mem-pages p es, pages-length es, ← chosen-same sees es, pages-at es (chosen Min sees es))
+outcome-same n p sees es = rw (pages-length es, ← chosen-same sees es, pages-at es (chosen Min sees es))
 
 next-same : (n t p : ℕ) (sees : Sees) (es : List Entry) → pages (next Min n t p sees es) ≡ minNext n p (sees .rest) (pages es)
 unfolding minNext
-next-same n t p sees es = go (ways n p es)
-  where
-    go : Ways n p es → pages (next Min n t p sees es) ≡ minNext n p (sees .rest) (pages es)
-    go (inl q) = rw (pages-hit Min n t p sees es q, mem-pages p es, q)
-    go (inr (inl (q, h))) = rw (pages-room Min n t p sees es q h, mem-pages p es, q, pages-length es, lt-ltb (length es) n h)
-    go (inr (inr (q, h))) = rw (pages-full Min n t p sees es q h, mem-pages p es, q, pages-length es, le-ltb (length es) n h, chosen-same sees es)
+next-same n t p sees es = pages-after Min n t p sees es ∙ ap (λ (f : ℕ). heldAfter n p (At (record { 0 = f })) (pages es)) (chosen-same sees es)
 
 -- THE WALK OF RULE 3, over pages
 pub min-walks : (n : ℕ) (past ps : List ℕ) (t : ℕ) (es : List Entry) → outcomes Min n t past ps es ≡ minOutcomes n ps (pages es)
@@ -123,12 +120,12 @@ module _ (rest held : List ℕ) where
           omega (arith, first-lowest (getD held i 0) a n j k m, first-lowest (getD held j 0) b m i h n)
 
   -- the frame whose turn is latest, and of several with the same turn the lowest page number, is the one that goes
-  pub farthest-is : Apart held → (s : ℕ) (turn : ℕ → ℕ) → ((j : ℕ) → j < length held → turn j ≡ s + nextOf rest (getD held j 0))
+  pub farthest-is : Apart held → (s : ℕ) (turns : List ℕ) → ((j : ℕ) → j < length held → getD turns j 0 ≡ s + nextOf rest (getD held j 0))
       → (best : ℕ) → best < length held
-      → ((j : ℕ) → j < length held → (turn j < turn best) ⊎ ((turn j ≡ turn best) × (getD held best 0 ≤ getD held j 0)))
+      → ((j : ℕ) → j < length held → Behind held turns j best)
       → farthest rest held ≡ best
   unfolding farthest
-  farthest-is apart s turn in-turn best h far =
+  farthest-is apart s turns in-turn best h far =
       index-is (goesFirst rest held) 0 held best h first (λ j k e. first-one apart j best k h e first)
     where
       q : ℕ

@@ -1,160 +1,214 @@
--- One request of MIN: what the code writes is one step of its walk, and every page stands beside its turn again.
+-- One request of MIN: the frame that the code finds is the one in which the page stands after it; the page put there is one step of MIN's walk;
+-- with its turn written beside it every page stands beside its turn again.
 -- Assumes nothing.
-use mathlib.Core.Path.{_≡_, sym, ap, _∙_}
+use mathlib.Core.Path.{_≡_, refl, sym, ap, _∙_}
 use mathlib.Core.Logic.{_⊎_, inl, inr, ⊎-elim}
 use mathlib.Core.Bool.{true, false}
-use mathlib.Core.List.{List, _∷_}
+use mathlib.Core.List.{List, [], _∷_, _++_}
 use Prim.Native.Nat.{ℕ, _+_, _≤_, _<_}
 use native.Mathlib.Numerals.{add-one}
 use native.Mathlib.Omega.{arith}
-use native.Mathlib.Decide.{ℕ-discrete}
-use lib.ListN.{length, getD, drop, set, length-set}
-use lib.Seq.{drop-cons, length-take-le, getD-take, getD-set-same, getD-set-other, take-set-lt, take-suc-set, set-getD}
-use borrow.Author.Tests.{lt-ltb, le-ltb}
+use native.Mathlib.Decide.{ℕ-discrete, decLt}
+use lib.ListN.{length, getD, take, drop, set, length-set}
+use lib.Seq.{drop-cons, getD-take, getD-set-same, getD-set-other, getD-append-seam, set-getD}
+use borrow.Author.Tests.{lt-ltb, le-ltb, eq-eqb, ne-eqb}
 use Rattle.paging.specs.Rules.{nextOf}
-use Rattle.paging.specs.Lists.{mem, placeOf}
-use Rattle.paging.specs.Calls.{frameLimit}
-use Rattle.paging.specs.declared.Moment.{Moment}
-use Rattle.paging.specs.declared.Outcome.the-variants.{Hit, Loaded, Dropped}
-use Rattle.paging.specs.Meanings.{Apart}
-use Rattle.paging.proofs.Held.{in-mem, place-holds, place-out, absent-in}
-use Rattle.minimum.specs.declared.Kept.{Kept}
-use Rattle.minimum.specs.Devices.Farthest.{farthest, minOutcome, minNext}
-use Rattle.minimum.specs.Devices.Turns.{turnOf, keptPages, pageAt, turnAt, putAt, Fair, Stepped}
+use Rattle.paging.specs.Held.{found}
+use Rattle.paging.specs.declared.Found.{Found}
+use Rattle.paging.specs.declared.Found.the-variants.{At, Absent}
+use Rattle.paging.specs.declared.Frame.{Frame}
+use Rattle.paging.proofs.Lists.{getD-snoc-old}
+use Rattle.paging.proofs.Held.{there-found, nowhere-found, found-has, absent-in}
+use Rattle.held.specs.Index.{Indexed}
+use Rattle.held.proofs.Keeping.{held-length}
+use Rattle.minimum.specs.Devices.Farthest.{farthest, minOutcome, minFrame, minNext}
+use Rattle.held.specs.Placing.{putOutcome, putPages, putCount}
+use Rattle.minimum.specs.Devices.Turns.{turnOf, Behind, Fair}
 use Rattle.minimum.proofs.Farthest.{next-nearer, farthest-is}
-use Rattle.minimum.proofs.Scan.{Behind}
+use Rattle.held.proofs.Placing.{count-stays, count-grows}
 
 module _
-    (n : ℕ) (trace : List ℕ) (t : ℕ) (k : Kept)
-    (fair : Fair n trace t k) (most : n ≤ frameLimit) (inside : t < length trace)
+    (n : ℕ) (trace : List ℕ) (t held : ℕ) (pages counts hints turns : List ℕ)
+    (fair : Fair n trace t held pages counts hints turns) (inside : t < length trace)
   where
     abbrev pub p : ℕ
     p = getD trace t 0
 
-    rest : List ℕ
+    abbrev pub rest : List ℕ
     rest = drop (t + 1) trace
 
-    -- the requests from t on are the present one and those to come
-    now-and-later : drop t trace ≡ p ∷ rest
-    unfolding rest
-    now-and-later = drop-cons trace t 0 inside ∙ ap (λ (s : ℕ). getD trace t 0 ∷ drop s trace) (sym (add-one t))
+    abbrev pub before : List ℕ
+    before = take held pages
 
-    held-length : length (keptPages k) ≡ k .count
-    held-length = length-take-le (k .count) (k .pages) (omega (arith, fair .few, fair .wide))
-
-    held-at : (i : ℕ) → i < k .count → getD (keptPages k) i 0 ≡ pageAt k i
-    held-at i h = getD-take (k .count) (k .pages) i 0 h
-
-    held-apart : Apart (keptPages k)
-    held-apart i j h l e =
-        let a : i < k .count = omega (arith, held-length) in
-        let b : j < k .count = omega (arith, held-length) in
-        fair .apart i j a b (sym (held-at i a) ∙ e ∙ held-at j b)
+    size : length before ≡ held
+    size = held-length held pages counts hints (fair .index)
 
     -- a page that is not requested keeps its turn
     turn-stays : (q : ℕ) → (p ≡ q → ⊥) → turnOf trace t q ≡ turnOf trace (t + 1) q
-    unfolding rest
-    turn-stays q e = omega (arith, ap (λ (xs : List ℕ). nextOf xs q) now-and-later, next-nearer q p rest e)
+    turn-stays q e =
+        let now-and-later : drop t trace ≡ p ∷ rest = drop-cons trace t 0 inside ∙ ap (λ (s : ℕ). p ∷ drop s trace) (sym (add-one t)) in
+        omega (arith, ap (λ (xs : List ℕ). nextOf xs q) now-and-later, next-nearer q p rest e)
 
-    -- the requested page goes into frame f, and all other frames in use hold other pages
-    module _ (f count : ℕ) (at : f < count) (few : count ≤ n) (others : (i : ℕ) → i < count → (i ≡ f → ⊥) → (i < k .count) × (pageAt k i ≡ p → ⊥)) where
-      turn : ℕ
-      turn = turnOf trace (t + 1) p
+    absent : found p before ≡ Absent → (i : ℕ) → i < held → getD before i 0 ≡ p → ⊥
+    absent out i h e = absent-in p before (nowhere-found p before out) (i, omega (arith, size), e)
 
-      page-here : getD (set (k .pages) f p) f 0 ≡ p
-      page-here = getD-set-same (k .pages) f p 0 (omega (arith, fair .wide))
+    -- ---- the frame for the page
 
-      page-there : (i : ℕ) → (i ≡ f → ⊥) → getD (set (k .pages) f p) i 0 ≡ pageAt k i
-      page-there i e = getD-set-other (k .pages) f i p 0 e
+    pub frame-hit : (f : Frame) → found p before ≡ At f → (f .0 < n) × (f .0 ≡ minFrame n p rest before)
+    unfolding minFrame
+    frame-hit f e =
+        let (m, q) = there-found p before f e in
+        (omega (arith, found-has p before f e .0, size, fair .few), rw m (sym q))
 
-      fair-put : Fair n trace (t + 1) (putAt k f p turn count)
-      unfolding turn
-      fair-put = record { wide = length-set (k .pages) f p ∙ fair .wide; deep = length-set (k .turns) f (record { 0 = turnOf trace (t + 1) p }) ∙ fair .deep; few = few; apart = apart-put; in-turn = in-turn-put }
-        where
-          apart-put : (i j : ℕ) → i < count → j < count → getD (set (k .pages) f p) i 0 ≡ getD (set (k .pages) f p) j 0 → i ≡ j
-          apart-put i j h l e =
-              elim (ℕ-discrete i f) [
-                | yes x ↦
-                    elim (ℕ-discrete j f) [
-                      | yes y ↦ omega arith
-                      | no y ↦ absurd (others j l y .1 (sym (page-there j y) ∙ sym e ∙ ap (λ (m : ℕ). getD (set (k .pages) f p) m 0) x ∙ page-here))
-                    ]
-                | no x ↦
-                    elim (ℕ-discrete j f) [
-                      | yes y ↦ absurd (others i h x .1 (sym (page-there i x) ∙ e ∙ ap (λ (m : ℕ). getD (set (k .pages) f p) m 0) y ∙ page-here))
-                      | no y ↦ fair .apart i j (others i h x .0) (others j l y .0) (sym (page-there i x) ∙ e ∙ page-there j y)
-                    ]
-              ]
+    pub frame-room : found p before ≡ Absent → held < n → (held < n) × (held ≡ minFrame n p rest before)
+    unfolding minFrame
+    frame-room out h = (h, rw (nowhere-found p before out, lt-ltb (length before) n (let k : length before < n = omega (arith, size) in k)) (sym size))
 
-          in-turn-put : (i : ℕ) → i < count → turnAt (putAt k f p (turnOf trace (t + 1) p) count) i ≡ turnOf trace (t + 1) (getD (set (k .pages) f p) i 0)
-          in-turn-put i h =
-              elim (ℕ-discrete i f) [
-                | yes x ↦ rw x (ap (λ (m : Moment). m .0) (getD-set-same (k .turns) f (record { 0 = turnOf trace (t + 1) p }) (record { 0 = 0 }) (omega (arith, fair .deep))) ∙ ap (turnOf trace (t + 1)) (sym page-here))
-                | no x ↦
-                    ap (λ (m : Moment). m .0) (getD-set-other (k .turns) f i (record { 0 = turnOf trace (t + 1) p }) (record { 0 = 0 }) x)
-                    ∙ fair .in-turn i (others i h x .0)
-                    ∙ turn-stays (pageAt k i) (λ e. others i h x .1 (sym e))
-                    ∙ ap (turnOf trace (t + 1)) (sym (page-there i x))
-              ]
+    full-frame : found p before ≡ Absent → n ≤ held → minFrame n p rest before ≡ farthest rest before
+    unfolding minFrame
+    full-frame out h = rw (nowhere-found p before out, le-ltb (length before) n (let k : n ≤ length before = omega (arith, size) in k))
 
-    -- ---- the three ways
-
-    -- a frame in use with another number holds another page
-    other-page : (f : ℕ) → f < k .count → pageAt k f ≡ p → (i : ℕ) → i < k .count → (i ≡ f → ⊥) → (i < k .count) × (pageAt k i ≡ p → ⊥)
-    other-page f h e i l x = (l, λ y. x (fair .apart i f l h (y ∙ sym e)))
-
-    absent-page : mem p (keptPages k) ≡ false → (i : ℕ) → i < k .count → pageAt k i ≡ p → ⊥
-    absent-page m i h e = absent-in p (keptPages k) m (i, omega (arith, held-length), held-at i h ∙ e)
-
-    pub served-hit : placeOf p (keptPages k) < k .count → Stepped n trace t k Hit (putAt k (placeOf p (keptPages k)) p (turnOf trace (t + 1) p) (k .count))
-    unfolding rest minOutcome minNext turn
-    served-hit h =
-        let f : ℕ = placeOf p (keptPages k) in
-        let l : f < length (keptPages k) = omega (arith, held-length) in
-        let e : getD (keptPages k) f 0 ≡ p = place-holds p (keptPages k) l in
-        let m : mem p (keptPages k) ≡ true = in-mem p (keptPages k) (f, l, e) in
-        record {
-          told = rw m;
-          held = rw m (take-set-lt (k .count) (k .pages) f p h ∙ ap (set (keptPages k) f) (sym e) ∙ set-getD (keptPages k) f 0);
-          fair = fair-put f (k .count) h (fair .few) (other-page f h (sym (held-at f h) ∙ e));
-        }
-
-    pub served-room : k .count ≤ placeOf p (keptPages k) → k .count < n → Stepped n trace t k Loaded (putAt k (k .count) p (turnOf trace (t + 1) p) (k .count + 1))
-    unfolding rest minOutcome minNext turn
-    served-room h r =
-        let m : mem p (keptPages k) ≡ false = place-out p (keptPages k) (omega (arith, held-length)) in
-        let l : length (keptPages k) < n = omega (arith, held-length) in
-        record {
-          told = rw (m, lt-ltb (length (keptPages k)) n l);
-          held = rw (m, lt-ltb (length (keptPages k)) n l, add-one (k .count)) (take-suc-set (k .pages) (k .count) p (omega (arith, fair .wide)));
-          fair = fair-put (k .count) (k .count + 1) (omega arith) (omega arith) (λ i a x. (omega arith, absent-page m i (omega arith)));
-        }
-
-    pub served-full : k .count ≤ placeOf p (keptPages k) → n ≤ k .count → (far : ℕ) → far < k .count
-        → ((j : ℕ) → j < k .count → Behind (turnAt k) (pageAt k) j far)
-        → Stepped n trace t k (Dropped (record { 0 = pageAt k far })) (putAt k far p (turnOf trace (t + 1) p) (k .count))
-    unfolding rest minOutcome minNext turn
-    served-full h r far g behind =
-        let m : mem p (keptPages k) ≡ false = place-out p (keptPages k) (omega (arith, held-length)) in
-        let l : n ≤ length (keptPages k) = omega (arith, held-length) in
-        let f : farthest rest (keptPages k) ≡ far =
-        farthest-is rest (keptPages k) held-apart (t + 1) (turnAt k) turns far (omega (arith, held-length)) behind-held in
-        record {
-          told = rw (m, le-ltb (length (keptPages k)) n l, f, held-at far g);
-          held = rw (m, le-ltb (length (keptPages k)) n l, f) (take-set-lt (k .count) (k .pages) far p g);
-          fair = fair-put far (k .count) g (fair .few) (λ i a x. (a, absent-page m i a));
-        }
+    pub frame-full : found p before ≡ Absent → n ≤ held → (far : ℕ) → far < held → ((j : ℕ) → j < held → Behind pages turns j far)
+        → (far < n) × (far ≡ minFrame n p rest before)
+    frame-full out h far g behind = (
+      omega (arith, fair .few),
+      sym (full-frame out h ∙ farthest-is rest before (fair .index .apart) (t + 1) turns in-turn far (omega (arith, size)) behind-before),
+    )
       where
-        absent-now : (j : ℕ) → j < k .count → pageAt k j ≡ p → ⊥
-        absent-now = absent-page (place-out p (keptPages k) (omega (arith, held-length)))
+        in-turn : (j : ℕ) → j < length before → getD turns j 0 ≡ (t + 1) + nextOf rest (getD before j 0)
+        in-turn j a =
+            let b : j < held = omega (arith, size) in
+            fair .in-turn j b ∙ turn-stays (getD before j 0) (λ y. absent out j b (sym y))
 
-        turns : (j : ℕ) → j < length (keptPages k) → turnAt k j ≡ (t + 1) + nextOf rest (getD (keptPages k) j 0)
-        turns j a =
-            let b : j < k .count = omega (arith, held-length) in
-            fair .in-turn j b ∙ turn-stays (pageAt k j) (λ e. absent-now j b (sym e)) ∙ ap (turnOf trace (t + 1)) (sym (held-at j b))
+        behind-before : (j : ℕ) → j < length before → Behind before turns j far
+        behind-before j a =
+            let b : j < held = omega (arith, size) in
+            ⊎-elim inl (λ w. inr (w .0, omega (arith, getD-take held pages j 0 b, getD-take held pages far 0 g))) (behind j b)
 
-        behind-held : (j : ℕ) → j < length (keptPages k)
-            → (turnAt k j < turnAt k far) ⊎ ((turnAt k j ≡ turnAt k far) × (getD (keptPages k) far 0 ≤ getD (keptPages k) j 0))
-        behind-held j a =
-            let b : j < k .count = omega (arith, held-length) in
-            ⊎-elim inl (λ w. inr (w .0, omega (arith, held-at j b, held-at far g))) (behind j b)
+    -- ---- the page put there
+
+    module _ (f : ℕ) (below : f < n) (is : f ≡ minFrame n p rest before) where
+      -- a hit; a load with room; a load in place of the page that goes
+      abbrev Ways : Type 0
+      Ways =
+          (found p before ≡ At (record { 0 = f }))
+          ⊎ ((found p before ≡ Absent) × (held < n) × (f ≡ held))
+          ⊎ ((found p before ≡ Absent) × (n ≤ held) × (f ≡ farthest rest before))
+
+      ways : Ways
+      ways = go (found p before) refl
+        where
+          go : (x : Found) → found p before ≡ x → Ways
+          go (At g) e = inl (e ∙ ap (λ (k : ℕ). At (record { 0 = k })) (frame-hit g e .1 ∙ sym is))
+          go Absent e =
+              elim (decLt held n) [
+                | yes h ↦ inr (inl (e, h, is ∙ sym (frame-room e h .1)))
+                | no h ↦ inr (inr (e, omega arith, is ∙ full-frame e (omega arith)))
+              ]
+
+      -- the page stands there already, or nowhere
+      pub put-fits : (f ≤ held) × ((found p before ≡ At (record { 0 = f })) ⊎ (found p before ≡ Absent))
+      put-fits = go ways
+        where
+          go : Ways → (f ≤ held) × ((found p before ≡ At (record { 0 = f })) ⊎ (found p before ≡ Absent))
+          go (inl e) = (omega (arith, found-has p before (record { 0 = f }) e .0, size), inl e)
+          go (inr (inl (e, h, x))) = (omega arith, inr e)
+          go (inr (inr (e, h, x))) = (omega arith, inr e)
+
+      pub put-told : putOutcome p f before ≡ minOutcome n p rest before
+      unfolding putOutcome minOutcome
+      put-told = go ways
+        where
+          go : Ways → putOutcome p f before ≡ minOutcome n p rest before
+          go (inl e) =
+              let (h, q, _) = found-has p before (record { 0 = f }) e in
+              rw (there-found p before (record { 0 = f }) e .0, lt-ltb f (length before) h, eq-eqb (getD before f 0) p q)
+          go (inr (inl (e, h, x))) =
+              let a : length before ≤ f = omega (arith, size) in
+              let b : length before < n = omega (arith, size) in
+              rw (nowhere-found p before e, le-ltb f (length before) a, lt-ltb (length before) n b)
+          go (inr (inr (e, h, x))) =
+              let a : f < length before = omega (arith, size) in
+              let b : n ≤ length before = omega (arith, size) in
+              rw (nowhere-found p before e, lt-ltb f (length before) a, le-ltb (length before) n b, ne-eqb (getD before f 0) p (absent e f (omega arith)), ← x)
+
+      pub put-after : putPages p f before ≡ minNext n p rest before
+      unfolding putPages minNext
+      put-after = go ways
+        where
+          go : Ways → putPages p f before ≡ minNext n p rest before
+          go (inl e) =
+              let (h, q, _) = found-has p before (record { 0 = f }) e in
+              rw (there-found p before (record { 0 = f }) e .0, lt-ltb f (length before) h) (ap (set before f) (sym q) ∙ set-getD before f 0)
+          go (inr (inl (e, h, x))) =
+              let a : length before ≤ f = omega (arith, size) in
+              let b : length before < n = omega (arith, size) in
+              rw (nowhere-found p before e, le-ltb f (length before) a, lt-ltb (length before) n b)
+          go (inr (inr (e, h, x))) =
+              let a : f < length before = omega (arith, size) in
+              let b : n ≤ length before = omega (arith, size) in
+              rw (nowhere-found p before e, lt-ltb f (length before) a, le-ltb (length before) n b, ← x)
+
+      -- the other frames hold other pages
+      others : (i : ℕ) → i < held → (i ≡ f → ⊥) → getD before i 0 ≡ p → ⊥
+      others i h x y = ⊎-elim at (λ e. absent e i h y) (put-fits .1)
+        where
+          at : found p before ≡ At (record { 0 = f }) → ⊥
+          at e = let (k, q, _) = found-has p before (record { 0 = f }) e in x (fair .index .apart i f (omega (arith, size)) k (y ∙ sym q))
+
+      -- ---- and its turn
+
+      module _ (pages' counts' hints' : List ℕ) (index : Indexed (putCount f held) pages' counts' hints') (e : take (putCount f held) pages' ≡ putPages p f before) where
+        abbrev after : List ℕ
+        after = take (putCount f held) pages'
+
+        -- the page stands in frame f, all other frames in use keep theirs
+        Kept : Type 0
+        Kept =
+            (f < putCount f held) × (putCount f held ≤ n) × (getD after f 0 ≡ p)
+            × ((i : ℕ) → i < putCount f held → (i ≡ f → ⊥) → (i < held) × (getD after i 0 ≡ getD before i 0))
+
+        kept : Kept
+        unfolding Kept putPages
+        kept = elim (decLt f held) [ yes h ↦ there h | no h ↦ free (let g : f ≡ held = omega (arith, put-fits .0) in g) ]
+          where
+            there : f < held → Kept
+            there h =
+                let a : f < length before = omega (arith, size) in
+                let s : after ≡ set before f p = e ∙ rw (lt-ltb f (length before) a) refl in
+                rw (s, count-stays f held h) (
+                  h,
+                  fair .few,
+                  getD-set-same before f p 0 a,
+                  λ i k x. (k, getD-set-other before f i p 0 x),
+                )
+
+            free : f ≡ held → Kept
+            free g =
+                let a : length before ≤ f = omega (arith, size) in
+                let s : after ≡ before ++ (p ∷ []) = e ∙ rw (le-ltb f (length before) a) refl in
+                let c : putCount f held ≡ held + 1 = count-grows f held (omega arith) in
+                rw (s, c) (
+                  omega arith,
+                  omega arith,
+                  ap (λ (k : ℕ). getD (before ++ (p ∷ [])) k 0) (g ∙ sym size) ∙ getD-append-seam before p [] 0,
+                  λ i k x. (omega arith, getD-snoc-old 0 before p i (omega (arith, size))),
+                )
+
+        pub fair-after : Fair n trace (t + 1) (putCount f held) pages' counts' hints' (set turns f (turnOf trace (t + 1) p))
+        unfolding Kept
+        fair-after = record { index = index; deep = length-set turns f (turnOf trace (t + 1) p) ∙ fair .deep; few = kept .1; in-turn = in-turn }
+          where
+            in-turn : (i : ℕ) → i < putCount f held → getD (set turns f (turnOf trace (t + 1) p)) i 0 ≡ turnOf trace (t + 1) (getD after i 0)
+            in-turn i h =
+                elim (ℕ-discrete i f) [
+                  | yes x ↦
+                      rw x
+                      (getD-set-same turns f (turnOf trace (t + 1) p) 0 (omega (arith, fair .deep, index .few, kept .0)) ∙ ap (turnOf trace (t + 1)) (sym (kept .2)))
+                  | no x ↦
+                      let (l, same) = kept .3 i h x in
+                      getD-set-other turns f i (turnOf trace (t + 1) p) 0 x
+                      ∙ fair .in-turn i l
+                      ∙ turn-stays (getD before i 0) (λ y. others i l x (sym y))
+                      ∙ ap (turnOf trace (t + 1)) (sym same)
+                ]
