@@ -10,7 +10,7 @@ use lib.ListN.{length, getD, drop, drop-of-length-le}
 use lib.Seq.{drop-cons}
 use borrow.Author.Tests.{eq-eqb, ne-eqb}
 use Rattle.paging.specs.Lists.{mem, placeOf}
-use Rattle.paging.proofs.Lists.{index-le, index-passes, at-any}
+use Rattle.paging.proofs.Lists.{index-passes, at-any}
 
 module _ (p : ℕ) (pages : List ℕ) (i : ℕ) where
   -- the page stands here
@@ -31,10 +31,6 @@ module _ (p : ℕ) (pages : List ℕ) (i : ℕ) where
 -- ---- found or not
 
 module _ (p : ℕ) (pages : List ℕ) where
-  pub place-le : placeOf p pages ≤ length pages
-  unfolding placeOf
-  place-le = index-le (λ (q : ℕ). eqb q p) 0 pages
-
   pub found-mem : placeOf p pages < length pages → mem p pages ≡ true
   unfolding mem placeOf
   found-mem h = at-any (λ (q : ℕ). eqb q p) 0 pages (placeOf p pages) h (index-passes (λ (q : ℕ). eqb q p) 0 pages h)

@@ -1,5 +1,5 @@
 // The pages held, in frame order, with an index, for a walk over a whole trace: three arrays that the walk owns and lends to each request.
-// Which frame holds a page, a page loaded into the next free frame, and a page in place of another.
+// Which frame holds a page, a page loaded into the next free frame, a page in place of another, and a page put into a frame in whichever of these ways.
 //
 // `pages` has the page of each frame, of which the first `held` are in use.
 // `counts` has for each hash how many held pages have it; `hints` a frame where a page of that hash was put last, which is only a guess.
@@ -94,7 +94,7 @@ pub fn replace(
     pages[at] = page.0;
 }
 
-// A page put into a frame: a hit, if it stands there already.
+// A page put into the frame that is chosen for it: a hit, if it stands there already; loaded, if the frame is the next free one; else in place of the page there.
 pub fn put(
     page: Page,
     frame: Frame,

@@ -1,12 +1,12 @@
 -- MIN's loop over a trace: what is held after i requests, and what is read so far.
 -- Assumes nothing.
-use mathlib.Core.Path.{_≡_, refl, sym, ap, ap₂, _∙_, subst}
+use mathlib.Core.Path.{_≡_, sym, ap, ap₂, _∙_, subst}
 use mathlib.Core.List.{List, [], _∷_}
 use Prim.Native.Nat.{ℕ, _+_, _≤_, _<_}
 use native.Mathlib.Numerals.{add-one}
 use native.Mathlib.Omega.{arith}
 use lib.ListN.{length, getD, set, take, drop, replicate, length-replicate, drop-of-length-le}
-use lib.Seq.{drop-cons, set-out}
+use lib.Seq.{drop-cons}
 use Rattle.paging.specs.Walk.{outcomes, faultOf, wordOf, faults, plan}
 use Rattle.paging.specs.Services.{laid}
 use Rattle.paging.specs.Calls.{frameLimit}
@@ -14,9 +14,9 @@ use Rattle.paging.specs.declared.Rule.the-variants.{Min}
 use Rattle.paging.specs.declared.Outcome.{Outcome}
 use Rattle.paging.proofs.Writing.{outcomes-length, Reading, reading-starts, reading-steps, reading-ends}
 use Rattle.held.specs.Index.{hashes, Indexed}
+use Rattle.held.specs.Placing.{putOutcome, putPages, putCount}
 use Rattle.held.proofs.Keeping.{index-starts}
 use Rattle.minimum.specs.Devices.Farthest.{minFrame, minOutcomes}
-use Rattle.held.specs.Placing.{putOutcome, putPages, putCount}
 use Rattle.minimum.specs.Devices.Turns.{turnOf, Fair}
 use Rattle.minimum.proofs.Farthest.{min-walks}
 use Rattle.minimum.proofs.Serving.{put-told, put-after, fair-after}

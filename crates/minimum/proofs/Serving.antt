@@ -3,7 +3,6 @@
 -- Assumes nothing.
 use mathlib.Core.Path.{_≡_, refl, sym, ap, _∙_}
 use mathlib.Core.Logic.{_⊎_, inl, inr, ⊎-elim}
-use mathlib.Core.Bool.{true, false}
 use mathlib.Core.List.{List, [], _∷_, _++_}
 use Prim.Native.Nat.{ℕ, _+_, _≤_, _<_}
 use native.Mathlib.Numerals.{add-one}
@@ -20,12 +19,12 @@ use Rattle.paging.specs.declared.Frame.{Frame}
 use Rattle.paging.proofs.Lists.{getD-snoc-old}
 use Rattle.paging.proofs.Held.{there-found, nowhere-found, found-has, absent-in}
 use Rattle.held.specs.Index.{Indexed}
-use Rattle.held.proofs.Keeping.{held-length}
-use Rattle.minimum.specs.Devices.Farthest.{farthest, minOutcome, minFrame, minNext}
 use Rattle.held.specs.Placing.{putOutcome, putPages, putCount}
+use Rattle.held.proofs.Keeping.{held-length}
+use Rattle.held.proofs.Placing.{count-stays, count-grows}
+use Rattle.minimum.specs.Devices.Farthest.{farthest, minOutcome, minFrame, minNext}
 use Rattle.minimum.specs.Devices.Turns.{turnOf, Behind, Fair}
 use Rattle.minimum.proofs.Farthest.{next-nearer, farthest-is}
-use Rattle.held.proofs.Placing.{count-stays, count-grows}
 
 module _
     (n : ℕ) (trace : List ℕ) (t held : ℕ) (pages counts hints turns : List ℕ)

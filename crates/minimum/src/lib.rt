@@ -93,8 +93,9 @@ fn walked(n: u32, trace: &[u32], words: &mut [u32]) -> u32
     let mut faults: u32 = 0;
     let mut i: usize = 0;
     while i < trace.len() {
+        let page = Page(trace[i]);
         let frame = frame_for(n as usize, trace, i, held, &pages, &counts, &hints, &turns);
-        let o = held::put(Page(trace[i]), frame, held, &mut pages, &mut counts, &mut hints);
+        let o = held::put(page, frame, held, &mut pages, &mut counts, &mut hints);
         let at = frame.0 as usize;
         turns[at] = next_request(trace, i);
         faults += o.fault();
