@@ -14,14 +14,16 @@ use lib.ListN.{length, set, length-set}
 use lib.Seq.{getD-set-same}
 use borrow.Author.Tests.{le-ltb, ltb-true, ltb-false}
 use Rattle.paging.specs.Lists.{pick, mem, placeOf}
+use Rattle.paging.specs.Held.{ifHeld}
 use Rattle.paging.specs.Plans.{judged, after, absent, through, checkFrom}
+use Rattle.paging.specs.declared.Found.the-variants.{At, Absent}
 use Rattle.paging.specs.declared.Gate.{Gate}
 use Rattle.paging.specs.declared.Gate.the-variants.{Open, No}
 use Rattle.paging.specs.declared.Answer.the-variants.{Faults, Refused}
 use Rattle.paging.specs.declared.Refusal.{Refusal}
 use Rattle.paging.specs.declared.Refusal.the-variants.{LentTooShort, PlanBroken}
 use Rattle.paging.proofs.Lists.{length-snoc}
-use Rattle.paging.proofs.Held.{mem-place, mem-in}
+use Rattle.paging.proofs.Held.{mem-place, mem-in, found-there, found-nowhere}
 use Rattle.paging.proofs.PlanRule.{after-hit, after-room, after-full}
 use Rattle.bounds.proofs.Pigeonhole.{same, times, Among, Within, same-self, times-snoc, times-set, in-among}
 
@@ -36,7 +38,7 @@ module _ (m p w : ℕ) (held : List ℕ) where
   unfolding judged
   judged-full t q h e = go (mem w held) (rw (q, le-ltb (length held) m h) at e)
     where
-      go : (b : Bool) → pick b Open (No (PlanBroken t)) ≡ Open → b ≡ true
+      go : (b : Bool) → ifHeld (pick b (At (record { 0 = placeOf w held })) Absent) (λ (f : ℕ). Open) (No (PlanBroken t)) ≡ Open → b ≡ true
       go true e = refl
       go false e = absurd (let k : _≡_ {A = ℕ} 0 1 = cc in omega arith)
 
@@ -78,7 +80,7 @@ module _ (m : ℕ) where
   served-hit : (p : ℕ) (held cov : List ℕ) → mem p held ≡ true → length held ≤ m → Within held cov → Served p held held cov
   served-hit p held cov q fits within =
       let h : Among p held = in-among p held (mem-in p held q) in
-      record { cover = cov; grown = rw q (omega arith); wider = λ z k. k; asked = within p h; kept = within; fits = fits; loaded = h }
+      record { cover = cov; grown = rw (found-there p held q) (omega arith); wider = λ z k. k; asked = within p h; kept = within; fits = fits; loaded = h }
 
   -- at a fault the page is put among those held, with or without another going
   served-fault : (p : ℕ) (held now cov : List ℕ) → mem p held ≡ false → Within held cov
@@ -86,7 +88,7 @@ module _ (m : ℕ) where
   unfolding times
   served-fault p held now cov q within new fits loaded = record {
     cover = p ∷ cov;
-    grown = rw q (omega arith);
+    grown = rw (found-nowhere p held q) (omega arith);
     wider = λ z h. omega arith;
     asked = omega (arith, same-self p);
     kept = λ z h. elim (decLt 0 (times z held)) [ yes k ↦ omega (arith, within z k) | no k ↦ omega (arith, new z) ];
