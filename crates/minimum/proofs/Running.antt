@@ -51,8 +51,8 @@ module _ (n : ℕ) (trace words₀ : List ℕ) where
           (sym (told ∙ put-told n trace i held pages counts hints turns (r .fair) more f below is))
           (sym (e ∙ put-after n trace i held pages counts hints turns (r .fair) more f below is))
 
-      pub running-steps : Running n trace words₀ (set words i (wordOf o)) (putCount f held) pages' counts' hints' (set turns f (turnOf trace (i + 1) (getD trace i 0))) (fs + faultOf o) (i + 1)
-      running-steps =
+      stepped : Running n trace words₀ (set words i (wordOf o)) (putCount f held) pages' counts' hints' (set turns f (turnOf trace (i + 1) (getD trace i 0))) (fs + faultOf o) (i + 1)
+      stepped =
           record {
             passed = omega arith;
             fair = fair-after n trace i held pages counts hints turns (r .fair) more f below is pages' counts' hints' index e;
@@ -60,6 +60,12 @@ module _ (n : ℕ) (trace words₀ : List ℕ) where
                 reading-steps (minOutcomes n trace []) o _ words₀ words fs i
                 (subst (λ (os : List Outcome). Reading (minOutcomes n trace []) os words₀ words fs i) left (r .reading));
           }
+
+      -- in the code's own numbers
+      pub running-steps : (words' : List ℕ) → words' ≡ set words i (wordOf o) → (held' : ℕ) → held' ≡ putCount f held
+          → (turn : ℕ) → turn ≡ turnOf trace (i + 1) (getD trace i 0) → (fault : ℕ) → fault ≡ faultOf o
+          → Running n trace words₀ words' held' pages' counts' hints' (set turns f turn) (fs + fault) (i + 1)
+      running-steps words' a held' b turn c fault d = rw (a, b, c, d) stepped
 
   pub running-ends : (words : List ℕ) (held : ℕ) (pages counts hints turns : List ℕ) (f i : ℕ) → Running n trace words₀ words held pages counts hints turns f i → length trace ≤ i
       → (f ≡ faults Min n trace) × (words ≡ laid (plan Min n trace) words₀)

@@ -1,6 +1,6 @@
 -- `minimum::walked` meets its contract: the loop's invariant is `Running`.
 -- Assumes nothing.
-use mathlib.Core.Path.{_≡_, sym, ap, _∙_}
+use mathlib.Core.Path.{_≡_, refl, sym, ap, _∙_}
 use mathlib.Core.Logic.{⊎-elim}
 use Prim.Native.Nat.{_-_, _≤_}
 use native.Mathlib.Omega.{arith}
@@ -94,8 +94,8 @@ add-faults c =
     let put = c .before .before .before .before .before .before in
     let a = put .before .before .before .before in
     let loop = loop-of a .loop in
-    let next = running-steps _ _ _ (loop .words) _ _ _ _ _ (loop .faults) (loop .i) (loop .inv .3) (a .before .before .before .before .before .before .loop-test .taken) _ (a .frame-for .ensures .0) (a .frame-for .ensures .1) _ (put .put .ensures .0) _ _ _ (put .put .ensures .1 .0) (put .put .ensures .1 .1) in
-    omega (arith, next .reading .few, next .passed, c .fault .ensures, loop .inv .2)
+    let next = running-steps _ _ _ (loop .words) _ _ _ _ _ (loop .faults) (loop .i) (loop .inv .3) (a .before .before .before .before .before .before .loop-test .taken) _ (a .frame-for .ensures .0) (a .frame-for .ensures .1) _ (put .put .ensures .0) _ _ _ (put .put .ensures .1 .0) (put .put .ensures .1 .1) _ refl _ refl _ refl _ (c .fault .ensures) in
+    omega (arith, next .reading .few, next .passed, loop .inv .2)
 
 word-requires : tie.Need-word-requires Inv-loop μ-loop
 word-requires c κs = search needs
@@ -126,12 +126,11 @@ loop-again c =
     let words : c .before .if1 .words ≡ set (loop .words) (loop .i) (wordOf (put .put .result)) =
     ⊎-elim (λ w. w .2 ∙ ap (set (loop .words) (loop .i)) (w .1 .ensures)) (λ w. w .1 ∙ sym (set-out (loop .words) (loop .i) _ (w .0 .left))) (c .before .if1 .came) in
     let held : c .if2 .held ≡ putCount frame (loop .held) =
-    ⊎-elim (λ w. w .1 ∙ sym (count-grows frame (loop .held) (w .0 .taken))) (λ w. w .1 ∙ sym (count-stays frame (loop .held) (w .0 .left))) (c .if2 .came) in
-    rw (words, held, c .before .before .before .next-request .ensures, c .before .before .fault .ensures) (
+    ⊎-elim (λ w. w .1 ∙ sym (count-grows frame (loop .held) (w .0 .taken))) (λ w. w .1 ∙ sym (count-stays frame (loop .held) (w .0 .left))) (c .if2 .came) in (
       loop .inv .0,
       loop .inv .1,
       loop .inv .2,
-      running-steps _ _ _ (loop .words) _ _ _ _ _ (loop .faults) (loop .i) (loop .inv .3) (a .before .before .before .before .before .before .loop-test .taken) _ (a .frame-for .ensures .0) (a .frame-for .ensures .1) _ (put .put .ensures .0) _ _ _ (put .put .ensures .1 .0) (put .put .ensures .1 .1),
+      running-steps _ _ _ (loop .words) _ _ _ _ _ (loop .faults) (loop .i) (loop .inv .3) (a .before .before .before .before .before .before .loop-test .taken) _ (a .frame-for .ensures .0) (a .frame-for .ensures .1) _ (put .put .ensures .0) _ _ _ (put .put .ensures .1 .0) (put .put .ensures .1 .1) _ words _ held _ (c .before .before .before .next-request .ensures) _ (c .before .before .fault .ensures),
     )
 
 same-length : tie.Need-same-length Inv-loop μ-loop
