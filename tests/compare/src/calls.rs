@@ -259,6 +259,25 @@ pub fn shared_hashes(tally: &mut Tally) {
         let other = cases::somebodys_plan(&mut rng, n, &trace);
         compare_better(tally, n, &trace, &plan, &other);
     }
+    crowded_frames(tally, &mut rng);
+}
+
+/// 256 frames full of pages of one hash, that of the mark, with 44 pages more to come.
+fn crowded_frames(tally: &mut Tally, rng: &mut Rng) {
+    let (n, turns) = (256, 900);
+    let trace: Vec<u32> = (0..turns)
+        .map(|t| if t < 600 { t % 300 } else { rng.below(300) as u32 })
+        .map(|number| cases::of_hash(cases::MARK_HASH, number))
+        .collect();
+    for rule in 1..=4 {
+        compare_count(tally, rule, n, &trace);
+        let room = plan_room(rng, trace.len());
+        compare_plan(tally, rule, n, &trace, &room);
+    }
+    for _ in 0..20 {
+        let plan = cases::lent_plan(rng, n, &trace);
+        compare_check(tally, n, &trace, &plan);
+    }
 }
 
 /// Traces of 7,999, 8,000 and 8,001 requests in every call, with few frames and with many.

@@ -157,13 +157,24 @@ fn name_pages(rng: &mut Rng, shape: &mut [u32]) {
     }
 }
 
+/// The hash of the mark, which Check looks for among the held pages where a plan has it for a page that goes.
+pub const MARK_HASH: u32 = 782;
+
+/// The page with a hash of the proved program's index and a number of its own: the product undone, whose top bits are the hash.
+pub fn of_hash(hash: u32, number: u32) -> u32 {
+    (hash << 21 | number).wrapping_mul(244_002_641)
+}
+
 /// The same requests for other pages: those of one hash or of a few, or with low bits alike. A hash
 /// is what an index might go by, the top eleven bits of a product by 2,654,435,761.
 pub fn crowd(rng: &mut Rng, trace: &mut [u32]) {
     let mut pages: Vec<u32> = trace.to_vec();
     pages.sort();
     pages.dedup();
-    let first = rng.below(2_048) as u32;
+    let first = match rng.below(6) {
+        0 => MARK_HASH,
+        _ => rng.below(2_048) as u32,
+    };
     let few = rng.pick(&[1, 1, 2, 5]);
     let alike = rng.one_in(6);
     for page in trace.iter_mut() {
@@ -171,9 +182,7 @@ pub fn crowd(rng: &mut Rng, trace: &mut [u32]) {
         *page = if alike {
             number << 16 | first
         } else {
-            // The product undone: its top bits are the hash, the others tell the pages apart.
-            let hash = (first + number % few) % 2_048;
-            (hash << 21 | number).wrapping_mul(244_002_641)
+            of_hash((first + number % few) % 2_048, number)
         };
     }
 }

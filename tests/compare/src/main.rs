@@ -240,7 +240,6 @@ mod tests {
         assert!(good[3] == 0 && every);
         for questions in [frames::damaged_questions, frames::random_questions] {
             let (counts, _) = answers(questions);
-            println!("{counts:?}");
             assert!(counts.iter().all(|&count| count > 40), "{counts:?}");
             assert!(counts[3] > 2_000, "{counts:?}");
         }
