@@ -266,7 +266,13 @@ pub fn shared_hashes(tally: &mut Tally) {
 fn crowded_frames(tally: &mut Tally, rng: &mut Rng) {
     let (n, turns) = (256, 900);
     let trace: Vec<u32> = (0..turns)
-        .map(|t| if t < 600 { t % 300 } else { rng.below(300) as u32 })
+        .map(|t| {
+            if t < 600 {
+                t % 300
+            } else {
+                rng.below(300) as u32
+            }
+        })
         .map(|number| cases::of_hash(cases::MARK_HASH, number))
         .collect();
     for rule in 1..=4 {
