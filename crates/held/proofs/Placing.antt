@@ -1,19 +1,27 @@
--- A page put into a frame: the code's three ways.
+-- A page put into a frame: the code's three ways, and what comes of it where the frame is the one for the page after its request.
 -- Assumes nothing.
 use mathlib.Core.Path.{_≡_, refl, sym, ap, _∙_}
-use mathlib.Core.Logic.{_⊎_, ⊎-elim}
+use mathlib.Core.Logic.{_⊎_, inl, inr, ⊎-elim}
+use mathlib.Core.Bool.{Bool, true, false}
 use mathlib.Core.List.{List, [], _∷_, _++_}
 use Prim.Native.Nat.{ℕ, _+_, _≤_, _<_}
 use native.Mathlib.Omega.{arith}
+use native.Mathlib.Decide.{decLt}
+use lib.Dec.{ltb}
 use lib.ListN.{length, getD, take, set}
 use lib.Seq.{getD-take, set-getD}
 use borrow.Author.Tests.{lt-ltb, le-ltb, eq-eqb, ne-eqb}
-use Rattle.paging.specs.Held.{found}
+use Rattle.paging.specs.Lists.{pick}
+use Rattle.paging.specs.Calls.{frameLimit}
+use Rattle.paging.specs.Held.{found, ifHeld, heldAfter, frameAfter}
+use Rattle.paging.specs.Plans.{absent}
+use Rattle.paging.specs.Walk.{faultOf}
+use Rattle.paging.specs.declared.Found.{Found}
 use Rattle.paging.specs.declared.Found.the-variants.{At, Absent}
 use Rattle.paging.specs.declared.Frame.{Frame}
 use Rattle.paging.specs.declared.Outcome.{Outcome}
 use Rattle.paging.specs.declared.Outcome.the-variants.{Hit, Loaded, Dropped}
-use Rattle.paging.proofs.Held.{found-has}
+use Rattle.paging.proofs.Held.{found-has, nowhere-found, absent-in}
 use Rattle.held.specs.Index.{Indexed}
 use Rattle.held.proofs.Keeping.{held-length}
 use Rattle.held.specs.Placing.{putOutcome, putPages, putCount}
@@ -26,6 +34,10 @@ count-stays f held h = rw (lt-ltb f held h)
 pub count-grows : (f held : ℕ) → held ≤ f → putCount f held ≡ held + 1
 unfolding putCount
 count-grows f held h = rw (le-ltb f held h)
+
+-- in a full cache of n frames without page p one of the pages held goes
+abbrev pub Going : ℕ → ℕ → Found → List ℕ → Type 0
+Going n p goes held = found p held ≡ Absent → n ≤ length held → (g : ℕ) × (goes ≡ At (record { 0 = g })) × (g < length held)
 
 module _ (p : ℕ) (frame : Frame) (held : ℕ) (pages counts hints : List ℕ) (x : Indexed held pages counts hints) where
   abbrev pub f : ℕ
@@ -72,3 +84,87 @@ module _ (p : ℕ) (frame : Frame) (held : ℕ) (pages counts hints : List ℕ) 
 
     pub absent-other : f < held → (getD pages f 0 ≡ p → ⊥) → found p before ≡ Absent
     absent-other h other = ⊎-elim (λ e. absurd (other (sym (getD-take held pages f 0 h) ∙ found-has p before frame e .1))) (λ e. e) fits
+
+  -- ---- the frame for the page after its request in n frames
+
+  module _ (n : ℕ) (goes : Found) (going : Going n p goes before) (is : f ≡ frameAfter n p goes before) where
+    -- a hit; a load with room; a load in place of the page that goes
+    abbrev Ways : Type 0
+    Ways =
+        (found p before ≡ At frame)
+        ⊎ ((found p before ≡ Absent) × (held < n) × (f ≡ held))
+        ⊎ ((found p before ≡ Absent) × (n ≤ held) × (f < held) × (goes ≡ At frame))
+
+    ways : Ways
+    unfolding frameAfter
+    ways = go (found p before) refl
+      where
+        go : (x : Found) → found p before ≡ x → Ways
+        go (At g) e = inl (e ∙ ap (λ (k : ℕ). At (record { 0 = k })) (sym (is ∙ rw e refl)))
+        go Absent e =
+            elim (decLt held n) [
+              | yes h ↦
+                  let a : length before < n = omega (arith, size) in
+                  inr (inl (e, h, is ∙ rw (e, lt-ltb (length before) n a) size))
+              | no h ↦
+                  let a : n ≤ length before = omega (arith, size) in
+                  let (g, there, k) = going e a in
+                  let q : f ≡ g = is ∙ rw (e, le-ltb (length before) n a, there) refl in
+                  inr (inr (e, omega arith, omega (arith, size), there ∙ ap (λ (k : ℕ). At (record { 0 = k })) (sym q)))
+            ]
+
+    -- what `put` requires of the frame
+    pub put-fits : n ≤ frameLimit → (f ≤ held) × (f < frameLimit) × ((found p before ≡ At frame) ⊎ (found p before ≡ Absent))
+    put-fits small = go ways
+      where
+        go : Ways → (f ≤ held) × (f < frameLimit) × ((found p before ≡ At frame) ⊎ (found p before ≡ Absent))
+        go (inl e) = let h = found-has p before frame e .0 in (omega (arith, h, size), omega (arith, h, size, x .few), inl e)
+        go (inr (inl (e, h, q))) = (omega arith, omega arith, inr e)
+        go (inr (inr (e, h, k, q))) = (omega arith, omega (arith, x .few), inr e)
+
+    -- the pages held then
+    pub put-after : putPages p f before ≡ heldAfter n p goes before
+    unfolding putPages heldAfter
+    put-after = go ways
+      where
+        go : Ways → putPages p f before ≡ heldAfter n p goes before
+        go (inl e) =
+            let (h, q, _) = found-has p before frame e in
+            rw (e, lt-ltb f (length before) h) (ap (set before f) (sym q) ∙ set-getD before f 0)
+        go (inr (inl (e, h, q))) =
+            let a : length before ≤ f = omega (arith, size) in
+            let b : length before < n = omega (arith, size) in
+            rw (e, le-ltb f (length before) a, lt-ltb (length before) n b)
+        go (inr (inr (e, h, k, q))) =
+            let a : f < length before = omega (arith, size) in
+            let b : n ≤ length before = omega (arith, size) in
+            rw (e, lt-ltb f (length before) a, le-ltb (length before) n b, q)
+
+    -- a hit where the page was held; else the page of the frame is dropped, in a full cache
+    pub put-told : putOutcome p f before ≡ ifHeld (found p before) (λ (g : ℕ). Hit) (pick (ltb (length before) n) Loaded (Dropped (record { 0 = getD before f 0 })))
+    unfolding putOutcome
+    put-told = go ways
+      where
+        go : Ways → putOutcome p f before ≡ ifHeld (found p before) (λ (g : ℕ). Hit) (pick (ltb (length before) n) Loaded (Dropped (record { 0 = getD before f 0 })))
+        go (inl e) =
+            let (h, q, _) = found-has p before frame e in
+            rw (e, lt-ltb f (length before) h, eq-eqb (getD before f 0) p q)
+        go (inr (inl (e, h, q))) =
+            let a : length before ≤ f = omega (arith, size) in
+            let b : length before < n = omega (arith, size) in
+            rw (e, le-ltb f (length before) a, lt-ltb (length before) n b)
+        go (inr (inr (e, h, k, q))) =
+            let a : f < length before = omega (arith, size) in
+            let b : n ≤ length before = omega (arith, size) in
+            let out : getD before f 0 ≡ p → ⊥ = λ y. absent-in p before (nowhere-found p before e) (f, a, y) in
+            rw (e, lt-ltb f (length before) a, le-ltb (length before) n b, ne-eqb (getD before f 0) p out)
+
+    -- a fault exactly where the page was absent
+    pub put-fault : faultOf (putOutcome p f before) ≡ absent p before
+    put-fault = ap faultOf put-told ∙ go (found p before) (ltb (length before) n)
+      where
+        go : (a : Found) (b : Bool)
+            → faultOf (ifHeld a (λ (g : ℕ). Hit) (pick b Loaded (Dropped (record { 0 = getD before f 0 })))) ≡ ifHeld a (λ (g : ℕ). 0) 1
+        go (At g) b = refl
+        go Absent true = refl
+        go Absent false = refl

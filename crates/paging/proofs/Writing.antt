@@ -39,7 +39,7 @@ plan-length rule n trace = words-length (outcomes rule n 0 [] trace []) ∙ outc
 pub laid-whole : (list words : List ℕ) → length list ≤ length words → laid list words ≡ list ++ drop (length list) words
 laid-whole list words h = ap (λ (xs : List ℕ). xs ++ drop (length list) words) (take-all (length words) list h)
 
-fault-most : (o : Outcome) → faultOf o ≤ 1
+pub fault-most : (o : Outcome) → faultOf o ≤ 1
 fault-most Hit = omega arith
 fault-most Loaded = omega arith
 fault-most (Dropped p) = omega arith

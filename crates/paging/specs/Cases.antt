@@ -10,7 +10,7 @@ use lib.ListN.{replicate}
 use native.Mathlib.Omega.{arith}
 use Rattle.paging.specs.Lists.{both, all}
 use Rattle.paging.specs.Refusals.{table}
-use Rattle.paging.specs.Held.{found, heldAfter}
+use Rattle.paging.specs.Held.{found, heldAfter, frameAfter}
 use Rattle.paging.specs.Rules.{mark}
 use Rattle.paging.specs.Walk.{faults, plan}
 use Rattle.paging.specs.Plans.{check}
@@ -166,6 +166,12 @@ pub held-after-clause :
     × (heldAfter 2 7 (At (record { 0 = 0 })) (5 ∷ 6 ∷ []) ≡ 7 ∷ 6 ∷ [])
 unfolding heldAfter
 held-after-clause = (refl, refl, refl)
+
+-- and the frame of its page then
+pub frame-after-clause :
+    (frameAfter 2 6 Absent (5 ∷ 6 ∷ []) ≡ 1) × (frameAfter 3 7 Absent (5 ∷ 6 ∷ []) ≡ 2) × (frameAfter 2 7 (At (record { 0 = 0 })) (5 ∷ 6 ∷ []) ≡ 0)
+unfolding frameAfter
+frame-after-clause = (refl, refl, refl)
 
 -- ---- FIFO can fault more with more frames
 

@@ -1,7 +1,7 @@
 -- Which frame holds a page, said once. The walk of the rules, the check of plans, the record's services and the index of held pages all cite it.
 --
 -- The cache is the list of the held pages in frame order: the page of frame 0 first.
--- In order: which frame; a choice by it; the pages held after a request.
+-- In order: which frame; a choice by it; the pages held after a request; the frame of its page then.
 -- Assumes nothing.
 use mathlib.Core.List.{List, [], _∷_, _++_}
 use Prim.Native.Nat.{ℕ}
@@ -28,3 +28,11 @@ heldAfter n p goes held =
     ifHeld (found p held) (λ (f : ℕ). held)
     (pick (ltb (length held) n) (held ++ (p ∷ []))
     (ifHeld goes (λ (f : ℕ). set held f p) held))
+
+-- the frame in which p stands then: on a hit its own; with room the lowest free one; in a full cache that of the page that goes
+unfoldable pub frameAfter : ℕ → ℕ → Found → List ℕ → ℕ
+unfolding found
+frameAfter n p goes held =
+    ifHeld (found p held) (λ (f : ℕ). f)
+    (pick (ltb (length held) n) (length held)
+    (ifHeld goes (λ (f : ℕ). f) (length held)))

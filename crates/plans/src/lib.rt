@@ -1,5 +1,5 @@
 // What the service Check answers: the chain of refusals, then the walk of a plan over its trace, with the pages held and their index in arrays of its own.
-// What is wrong with an entry is said by one function, `judge_entry`; what it makes of the pages held is done by another, `store`.
+// What is wrong with an entry, and else the frame for the requested page, is said by `judge_entry`; the page is put there by `held::put`, as in the walk of MIN.
 ghost use mathlib.Core.Path.{_≡_};
 ghost use Prim.Native.Nat.{_≤_};
 ghost use lib.Dec.{eqb};
@@ -7,11 +7,12 @@ ghost use lib.ListN.{length, take};
 ghost use Rattle.paging.specs.Lists.{pick};
 ghost use Rattle.paging.specs.Rules.{mark};
 ghost use Rattle.paging.specs.Calls.{requestLimit, frameLimit};
+ghost use Rattle.paging.specs.Held.{found, frameAfter};
 ghost use Rattle.paging.specs.Plans.{judged, check};
 ghost use Rattle.paging.specs.declared.Gate.the-variants.{Open, No};
 ghost use Rattle.held.specs.Index.{Indexed};
 ghost use Rattle.plans.specs.Check.{checkOf};
-ghost use Rattle.plans.specs.Devices.{stepOf, settled, stepFaults, stepPages, Fits};
+ghost use Rattle.plans.specs.Devices.{settled};
 use paging::Answer;
 use paging::Found;
 use paging::Frame;
@@ -20,42 +21,23 @@ use paging::Moment;
 use paging::Page;
 use paging::Refusal;
 
-// What becomes of a request: its page stays where it is, or is loaded into the next free frame, or into the frame of a page that is dropped.
-enum Step {
-    Stays,
-    Loads,
-    Drops(Frame),
-}
-
-// What an entry of a plan comes to: it keeps the plan rule and settles the request, or it is refused.
+// What an entry of a plan comes to: it keeps the plan rule, and this is the frame for the requested page, or it is refused.
 enum Judged {
-    Keeps(Step),
+    Keeps(Frame),
     Breaks(Refusal),
 }
 
-impl Step {
-    fn fault(self) -> u32
-        ensures { λ r. ⌜ r ≡ stepFaults self ⌝ }
-    {
-        match self {
-            Step::Stays => 0,
-            Step::Loads => 1,
-            Step::Drops(_) => 1,
-        }
-    }
-}
-
-// An entry that must be the mark: the step where it is, and the refusal that it gets otherwise.
-fn mark_only(w: Page, step: Step, otherwise: Refusal) -> Judged
-    ensures { λ r. ⌜ r ≡ settled (pick (eqb (w .0) mark) Open (No otherwise)) step ⌝ }
+// An entry that must be the mark: the frame where it is, and the refusal that it gets otherwise.
+fn mark_only(w: Page, frame: Frame, otherwise: Refusal) -> Judged
+    ensures { λ r. ⌜ r ≡ settled (pick (eqb (w .0) mark) Open (No otherwise)) frame ⌝ }
 {
     if w.0 == paging::MARK {
-        return Judged::Keeps(step);
+        return Judged::Keeps(frame);
     }
     Judged::Breaks(otherwise)
 }
 
-// What the entry `w` for a request of page `p` at moment `t` in `m` frames comes to.
+// What the entry `w` for a request of page `p` at moment `t` in `m` frames comes to: the page's own frame, the next free one, or that of the page that `w` names.
 fn judge_entry(
     m: u32,
     t: Moment,
@@ -67,44 +49,18 @@ fn judge_entry(
     hints: &[u8],
 ) -> Judged
     requires { ⌜ Indexed held (now pages) (now counts) (now hints) ⌝ }
-    ensures { λ r. ⌜ r ≡ settled (judged m (t .0) (take held (now (pages .entry))) (p .0) (w .0)) (stepOf m (take held (now (pages .entry))) (p .0) (w .0)) ⌝ }
+    ensures { λ r. ⌜ r ≡ settled (judged m (t .0) (take held (now (pages .entry))) (p .0) (w .0)) (record { 0 = frameAfter m (p .0) (found (w .0) (take held (now (pages .entry)))) (take held (now (pages .entry))) }) ⌝ }
 {
     let broken = Refusal::PlanBroken(t.0);
-    if let Found::At(_) = held::find(p, held, pages, counts, hints) {
-        return mark_only(w, Step::Stays, broken);
+    if let Found::At(frame) = held::find(p, held, pages, counts, hints) {
+        return mark_only(w, frame, broken);
     }
     if held < m as usize {
-        return mark_only(w, Step::Loads, broken);
+        return mark_only(w, Frame(held as u32), broken);
     }
     match held::find(w, held, pages, counts, hints) {
-        Found::At(frame) => Judged::Keeps(Step::Drops(frame)),
+        Found::At(frame) => Judged::Keeps(frame),
         Found::Absent => Judged::Breaks(broken),
-    }
-}
-
-// Does what a step says with the page `p`, and hands back how many pages are held after it.
-fn store(
-    step: Step,
-    p: Page,
-    held: usize,
-    pages: &mut [u32],
-    counts: &mut [u16],
-    hints: &mut [u8],
-) -> usize
-    requires { ⌜ (Indexed held (now pages) (now counts) (now hints)) × (Fits step (p .0) (take held (now pages))) ⌝ }
-    ensures index { λ r. ⌜ Indexed r (now (pages .exit)) (now (counts .exit)) (now (hints .exit)) ⌝ }
-    ensures pages { λ r. ⌜ take r (now (pages .exit)) ≡ stepPages step (p .0) (take held (now (pages .entry))) ⌝ }
-{
-    match step {
-        Step::Stays => held,
-        Step::Loads => {
-            held::load(p, held, pages, counts, hints);
-            held + 1
-        }
-        Step::Drops(frame) => {
-            held::replace(p, frame, held, pages, counts, hints);
-            held
-        }
     }
 }
 
@@ -124,9 +80,12 @@ fn walked(m: u32, trace: &[u32], words: &[u32]) -> Answer
         let w = Page(words[i]);
         match judge_entry(m, Moment(i as u32), p, w, held, &pages, &counts, &hints) {
             Judged::Breaks(refusal) => return Answer::Refused(refusal),
-            Judged::Keeps(step) => {
-                faults += step.fault();
-                held = store(step, p, held, &mut pages, &mut counts, &mut hints);
+            Judged::Keeps(frame) => {
+                let o = held::put(p, frame, held, &mut pages, &mut counts, &mut hints);
+                faults += o.fault();
+                if held <= frame.0 as usize {
+                    held += 1;
+                }
             }
         }
         i += 1;
