@@ -113,14 +113,22 @@ module _ (p : ℕ) (frame : Frame) (held : ℕ) (pages counts hints : List ℕ) 
                   inr (inr (e, omega arith, omega (arith, size), there ∙ ap (λ (k : ℕ). At (record { 0 = k })) (sym q)))
             ]
 
-    -- what `put` requires of the frame
-    pub put-fits : n ≤ frameLimit → (f ≤ held) × (f < frameLimit) × ((found p before ≡ At frame) ⊎ (found p before ≡ Absent))
-    put-fits small = go ways
+    -- what `put` requires: the page stands in the frame already, or nowhere
+    pub put-fits : (f ≤ held) × ((found p before ≡ At frame) ⊎ (found p before ≡ Absent))
+    put-fits = go ways
       where
-        go : Ways → (f ≤ held) × (f < frameLimit) × ((found p before ≡ At frame) ⊎ (found p before ≡ Absent))
-        go (inl e) = let h = found-has p before frame e .0 in (omega (arith, h, size), omega (arith, h, size, x .few), inl e)
-        go (inr (inl (e, h, q))) = (omega arith, omega arith, inr e)
-        go (inr (inr (e, h, k, q))) = (omega arith, omega (arith, x .few), inr e)
+        go : Ways → (f ≤ held) × ((found p before ≡ At frame) ⊎ (found p before ≡ Absent))
+        go (inl e) = (omega (arith, found-has p before frame e .0, size), inl e)
+        go (inr (inl (e, h, q))) = (omega arith, inr e)
+        go (inr (inr (e, h, k, q))) = (omega arith, inr e)
+
+    pub put-small : n ≤ frameLimit → f < frameLimit
+    put-small small = go ways
+      where
+        go : Ways → f < frameLimit
+        go (inl e) = omega (arith, found-has p before frame e .0, size, x .few)
+        go (inr (inl (e, h, q))) = omega arith
+        go (inr (inr (e, h, k, q))) = omega (arith, x .few)
 
     -- the pages held then
     pub put-after : putPages p f before ≡ heldAfter n p goes before
@@ -140,12 +148,17 @@ module _ (p : ℕ) (frame : Frame) (held : ℕ) (pages counts hints : List ℕ) 
             let b : n ≤ length before = omega (arith, size) in
             rw (e, lt-ltb f (length before) a, le-ltb (length before) n b, q)
 
-    -- a hit where the page was held; else the page of the frame is dropped, in a full cache
-    pub put-told : putOutcome p f before ≡ ifHeld (found p before) (λ (g : ℕ). Hit) (pick (ltb (length before) n) Loaded (Dropped (record { 0 = getD before f 0 })))
+    -- a hit where the page was held; a load with room; else the page that goes is dropped
+    abbrev pub outcomeAfter : Outcome
+    outcomeAfter =
+        ifHeld (found p before) (λ (g : ℕ). Hit)
+        (pick (ltb (length before) n) Loaded (ifHeld goes (λ (g : ℕ). Dropped (record { 0 = getD before g 0 })) Loaded))
+
+    pub put-told : putOutcome p f before ≡ outcomeAfter
     unfolding putOutcome
     put-told = go ways
       where
-        go : Ways → putOutcome p f before ≡ ifHeld (found p before) (λ (g : ℕ). Hit) (pick (ltb (length before) n) Loaded (Dropped (record { 0 = getD before f 0 })))
+        go : Ways → putOutcome p f before ≡ outcomeAfter
         go (inl e) =
             let (h, q, _) = found-has p before frame e in
             rw (e, lt-ltb f (length before) h, eq-eqb (getD before f 0) p q)
@@ -157,14 +170,16 @@ module _ (p : ℕ) (frame : Frame) (held : ℕ) (pages counts hints : List ℕ) 
             let a : f < length before = omega (arith, size) in
             let b : n ≤ length before = omega (arith, size) in
             let out : getD before f 0 ≡ p → ⊥ = λ y. absent-in p before (nowhere-found p before e) (f, a, y) in
-            rw (e, lt-ltb f (length before) a, le-ltb (length before) n b, ne-eqb (getD before f 0) p out)
+            rw (e, lt-ltb f (length before) a, le-ltb (length before) n b, ne-eqb (getD before f 0) p out, q)
 
     -- a fault exactly where the page was absent
     pub put-fault : faultOf (putOutcome p f before) ≡ absent p before
-    put-fault = ap faultOf put-told ∙ go (found p before) (ltb (length before) n)
+    put-fault = ap faultOf put-told ∙ go (found p before) (ltb (length before) n) goes
       where
-        go : (a : Found) (b : Bool)
-            → faultOf (ifHeld a (λ (g : ℕ). Hit) (pick b Loaded (Dropped (record { 0 = getD before f 0 })))) ≡ ifHeld a (λ (g : ℕ). 0) 1
-        go (At g) b = refl
-        go Absent true = refl
-        go Absent false = refl
+        go : (a : Found) (b : Bool) (c : Found)
+            → faultOf (ifHeld a (λ (g : ℕ). Hit) (pick b Loaded (ifHeld c (λ (g : ℕ). Dropped (record { 0 = getD before g 0 })) Loaded)))
+            ≡ ifHeld a (λ (g : ℕ). 0) 1
+        go (At g) b c = refl
+        go Absent true c = refl
+        go Absent false (At g) = refl
+        go Absent false Absent = refl

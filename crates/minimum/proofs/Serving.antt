@@ -9,11 +9,10 @@ use native.Mathlib.Numerals.{add-one}
 use native.Mathlib.Omega.{arith}
 use native.Mathlib.Decide.{ℕ-discrete, decLt}
 use lib.ListN.{length, getD, take, drop, set, length-set}
-use lib.Seq.{drop-cons, getD-take, getD-set-same, getD-set-other, getD-append-seam, set-getD}
-use borrow.Author.Tests.{lt-ltb, le-ltb, eq-eqb, ne-eqb}
+use lib.Seq.{drop-cons, getD-take, getD-set-same, getD-set-other, getD-append-seam}
+use borrow.Author.Tests.{lt-ltb, le-ltb}
 use Rattle.paging.specs.Rules.{nextOf}
 use Rattle.paging.specs.Held.{found}
-use Rattle.paging.specs.declared.Found.{Found}
 use Rattle.paging.specs.declared.Found.the-variants.{At, Absent}
 use Rattle.paging.specs.declared.Frame.{Frame}
 use Rattle.paging.proofs.Lists.{getD-snoc-old}
@@ -21,7 +20,8 @@ use Rattle.paging.proofs.Held.{there-found, nowhere-found, found-has, absent-in
 use Rattle.held.specs.Index.{Indexed}
 use Rattle.held.specs.Placing.{putOutcome, putPages, putCount}
 use Rattle.held.proofs.Keeping.{held-length}
-use Rattle.held.proofs.Placing.{count-stays, count-grows}
+use Rattle.held.proofs.Placing as placing
+use Rattle.held.proofs.Placing.{Going, count-stays, count-grows}
 use Rattle.minimum.specs.Devices.Farthest.{farthest, minOutcome, minFrame, minNext}
 use Rattle.minimum.specs.Devices.Turns.{turnOf, Behind, Fair}
 use Rattle.minimum.proofs.Farthest.{next-nearer, farthest-is}
@@ -87,66 +87,21 @@ module _
     -- ---- the page put there
 
     module _ (f : ℕ) (below : f < n) (is : f ≡ minFrame n p rest before) where
-      -- a hit; a load with room; a load in place of the page that goes
-      abbrev Ways : Type 0
-      Ways =
-          (found p before ≡ At (record { 0 = f }))
-          ⊎ ((found p before ≡ Absent) × (held < n) × (f ≡ held))
-          ⊎ ((found p before ≡ Absent) × (n ≤ held) × (f ≡ farthest rest before))
+      -- in a full cache without the page the one whose turn is latest goes
+      going : Going n p (At (record { 0 = farthest rest before })) before
+      going out full = let h : n ≤ held = omega (arith, size) in (farthest rest before, refl, omega (arith, is, full-frame out h))
 
-      ways : Ways
-      ways = go (found p before) refl
-        where
-          go : (x : Found) → found p before ≡ x → Ways
-          go (At g) e = inl (e ∙ ap (λ (k : ℕ). At (record { 0 = k })) (frame-hit g e .1 ∙ sym is))
-          go Absent e =
-              elim (decLt held n) [
-                | yes h ↦ inr (inl (e, h, is ∙ sym (frame-room e h .1)))
-                | no h ↦ inr (inr (e, omega arith, is ∙ full-frame e (omega arith)))
-              ]
-
-      -- the page stands there already, or nowhere
       pub put-fits : (f ≤ held) × ((found p before ≡ At (record { 0 = f })) ⊎ (found p before ≡ Absent))
-      put-fits = go ways
-        where
-          go : Ways → (f ≤ held) × ((found p before ≡ At (record { 0 = f })) ⊎ (found p before ≡ Absent))
-          go (inl e) = (omega (arith, found-has p before (record { 0 = f }) e .0, size), inl e)
-          go (inr (inl (e, h, x))) = (omega arith, inr e)
-          go (inr (inr (e, h, x))) = (omega arith, inr e)
+      unfolding minFrame
+      put-fits = placing.put-fits p (record { 0 = f }) held pages counts hints (fair .index) n _ going is
 
       pub put-told : putOutcome p f before ≡ minOutcome n p rest before
-      unfolding putOutcome minOutcome
-      put-told = go ways
-        where
-          go : Ways → putOutcome p f before ≡ minOutcome n p rest before
-          go (inl e) =
-              let (h, q, _) = found-has p before (record { 0 = f }) e in
-              rw (there-found p before (record { 0 = f }) e .0, lt-ltb f (length before) h, eq-eqb (getD before f 0) p q)
-          go (inr (inl (e, h, x))) =
-              let a : length before ≤ f = omega (arith, size) in
-              let b : length before < n = omega (arith, size) in
-              rw (nowhere-found p before e, le-ltb f (length before) a, lt-ltb (length before) n b)
-          go (inr (inr (e, h, x))) =
-              let a : f < length before = omega (arith, size) in
-              let b : n ≤ length before = omega (arith, size) in
-              rw (nowhere-found p before e, lt-ltb f (length before) a, le-ltb (length before) n b, ne-eqb (getD before f 0) p (absent e f (omega arith)), ← x)
+      unfolding minFrame minOutcome
+      put-told = placing.put-told p (record { 0 = f }) held pages counts hints (fair .index) n _ going is
 
       pub put-after : putPages p f before ≡ minNext n p rest before
-      unfolding putPages minNext
-      put-after = go ways
-        where
-          go : Ways → putPages p f before ≡ minNext n p rest before
-          go (inl e) =
-              let (h, q, _) = found-has p before (record { 0 = f }) e in
-              rw (there-found p before (record { 0 = f }) e .0, lt-ltb f (length before) h) (ap (set before f) (sym q) ∙ set-getD before f 0)
-          go (inr (inl (e, h, x))) =
-              let a : length before ≤ f = omega (arith, size) in
-              let b : length before < n = omega (arith, size) in
-              rw (nowhere-found p before e, le-ltb f (length before) a, lt-ltb (length before) n b)
-          go (inr (inr (e, h, x))) =
-              let a : f < length before = omega (arith, size) in
-              let b : n ≤ length before = omega (arith, size) in
-              rw (nowhere-found p before e, lt-ltb f (length before) a, le-ltb (length before) n b, ← x)
+      unfolding minFrame minNext
+      put-after = placing.put-after p (record { 0 = f }) held pages counts hints (fair .index) n _ going is
 
       -- the other frames hold other pages
       others : (i : ℕ) → i < held → (i ≡ f → ⊥) → getD before i 0 ≡ p → ⊥

@@ -24,7 +24,7 @@ use Rattle.paging.specs.declared.Refusal.{Refusal}
 use Rattle.paging.proofs.Held.{found-has}
 use Rattle.held.specs.Index.{Indexed}
 use Rattle.held.specs.Placing.{putOutcome, putPages}
-use Rattle.held.proofs.Placing.{Going, put-fits, put-after, put-fault}
+use Rattle.held.proofs.Placing.{Going, put-fits, put-small, put-after, put-fault}
 use Rattle.plans.specs.declared.Judged.{Judged}
 use Rattle.plans.specs.declared.Judged.the-variants.{Keeps, Breaks}
 use Rattle.plans.specs.Devices.{settled}
@@ -47,7 +47,7 @@ check-end m f held trace words i h = rw (drop-of-length-le trace h)
 -- ---- the request of moment i
 
 module _
-    (m f : ℕ) (trace words : List ℕ) (i : ℕ) (h : i < length trace) (l : length trace ≤ length words) (few : m ≤ frameLimit)
+    (m : ℕ) (trace words : List ℕ) (i : ℕ) (h : i < length trace) (l : length trace ≤ length words)
     (held : ℕ) (pages counts hints : List ℕ) (x : Indexed held pages counts hints)
   where
     abbrev p : ℕ
@@ -59,10 +59,10 @@ module _
     abbrev before : List ℕ
     before = take held pages
 
-    step : checkFrom m i f before (drop i trace) (drop i words)
+    step : (f : ℕ) → checkFrom m i f before (drop i trace) (drop i words)
         ≡ through (judged m i before p w) (checkFrom m (i + 1) (f + absent p before) (after m before p w) (drop (i + 1) trace) (drop (i + 1) words))
     unfolding checkFrom
-    step = rw (drop-cons trace i 0 h, drop-cons words i 0 (omega arith), add-one)
+    step f = rw (drop-cons trace i 0 h, drop-cons words i 0 (omega arith), add-one)
 
     -- in a full cache an entry that keeps the rule names a page that is held
     named : judged m i before p w ≡ Open → Going m p (found w before) before
@@ -77,21 +77,23 @@ module _
 
     module _ (j : Judged) (e : j ≡ settled (judged m i before p w) (record { 0 = frameAfter m p (found w before) before })) where
       -- the entry is refused: that is the answer
-      pub check-stop : (r : Refusal) → j ≡ Breaks r → checkFrom m i f before (drop i trace) (drop i words) ≡ Refused r
-      check-stop r b = let no : judged m i before p w ≡ No r = breaks-settled _ _ r (sym e ∙ b) in step ∙ rw no
+      pub check-stop : (f : ℕ) (r : Refusal) → j ≡ Breaks r → checkFrom m i f before (drop i trace) (drop i words) ≡ Refused r
+      check-stop f r b = let no : judged m i before p w ≡ No r = breaks-settled _ _ r (sym e ∙ b) in step f ∙ rw no
 
       -- it keeps the rule: its page can be put into the frame, and the check goes on behind it
       module _ (frame : Frame) (k : j ≡ Keeps frame) where
         kept : (judged m i before p w ≡ Open) × (frame .0 ≡ frameAfter m p (found w before) before)
         kept = keeps-settled _ _ frame (sym e ∙ k)
 
-        pub entry-fits : (frame .0 ≤ held) × (frame .0 < frameLimit) × ((found p before ≡ At frame) ⊎ (found p before ≡ Absent))
-        entry-fits = put-fits p frame held pages counts hints x m (found w before) (named (kept .0)) (kept .1) few
+        pub entry-fits : m ≤ frameLimit → (frame .0 ≤ held) × (frame .0 < frameLimit) × ((found p before ≡ At frame) ⊎ (found p before ≡ Absent))
+        entry-fits few =
+            let (there, fits) = put-fits p frame held pages counts hints x m (found w before) (named (kept .0)) (kept .1) in
+            (there, put-small p frame held pages counts hints x m (found w before) (named (kept .0)) (kept .1) few, fits)
 
-        pub check-on : (o : Outcome) → o ≡ putOutcome p (frame .0) before → (fault : ℕ) → fault ≡ faultOf o → (later : List ℕ) → later ≡ putPages p (frame .0) before
+        pub check-on : (f : ℕ) (o : Outcome) → o ≡ putOutcome p (frame .0) before → (fault : ℕ) → fault ≡ faultOf o → (later : List ℕ) → later ≡ putPages p (frame .0) before
             → checkFrom m i f before (drop i trace) (drop i words) ≡ checkFrom m (i + 1) (f + fault) later (drop (i + 1) trace) (drop (i + 1) words)
         unfolding after
-        check-on o told fault a later b =
+        check-on f o told fault a later b =
             let faults : fault ≡ absent p before = a ∙ ap faultOf told ∙ put-fault p frame held pages counts hints x m (found w before) (named (kept .0)) (kept .1) in
             let pages' : later ≡ after m before p w = b ∙ put-after p frame held pages counts hints x m (found w before) (named (kept .0)) (kept .1) in
-            step ∙ rw (kept .0, faults, pages')
+            step f ∙ rw (kept .0, faults, pages')

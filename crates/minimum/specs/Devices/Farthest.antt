@@ -7,7 +7,7 @@ use lib.Dec.{ltb, leb}
 use lib.ListN.{length, getD}
 use Rattle.paging.specs.Lists.{pick, both, implies, all, indexOf}
 use Rattle.paging.specs.Rules.{nextOf, never}
-use Rattle.paging.specs.Held.{found, ifHeld, heldAfter}
+use Rattle.paging.specs.Held.{found, ifHeld, heldAfter, frameAfter}
 use Rattle.paging.specs.declared.Found.the-variants.{At}
 use Rattle.paging.specs.declared.Outcome.{Outcome}
 use Rattle.paging.specs.declared.Outcome.the-variants.{Hit, Loaded, Dropped}
@@ -33,8 +33,8 @@ minOutcome n p rest held =
 
 -- the frame in which p stands after it
 unfoldable pub minFrame : ℕ → ℕ → List ℕ → List ℕ → ℕ
-unfolding found farthest
-minFrame n p rest held = ifHeld (found p held) (λ (f : ℕ). f) (pick (ltb (length held) n) (length held) (farthest rest held))
+unfolding frameAfter farthest
+minFrame n p rest held = frameAfter n p (At (record { 0 = farthest rest held })) held
 
 -- the pages held after it
 unfoldable pub minNext : ℕ → ℕ → List ℕ → List ℕ → List ℕ

@@ -72,7 +72,7 @@ returns c =
     let j = c .before .before .before in
     let l = loop-of j in
     let s = l .before .before .before in
-    sym (check-stop _ _ _ _ _ (j .before .before .before .before .before .before .loop-test .taken) (s .pre .2) (s .pre .0) _ _ _ _ (l .loop .inv .2) _ (j .judge-entry .ensures) _ (c .before .refusal .given .1)) ∙ l .loop .inv .3
+    sym (check-stop _ _ _ _ (j .before .before .before .before .before .before .loop-test .taken) (s .pre .2) _ _ _ _ (l .loop .inv .2) _ (j .judge-entry .ensures) _ _ (c .before .refusal .given .1)) ∙ l .loop .inv .3
 
 enum-known-frame : tie.Need-enum-known-frame Inv-loop μ-loop
 enum-known-frame c = search needs
@@ -92,7 +92,7 @@ put-requires c κs =
     let j = a .before .before in
     let l = loop-of j in
     let s = l .before .before .before in
-    let fits = entry-fits _ (l .loop .faults) (s .args .trace .now) (s .args .words .now) _ (j .before .before .before .before .before .before .loop-test .taken) (s .pre .2) (s .pre .0) _ _ _ _ (l .loop .inv .2) _ (j .judge-entry .ensures) _ (a .frame .given .1) in
+    let fits = entry-fits _ (s .args .trace .now) (s .args .words .now) _ (j .before .before .before .before .before .before .loop-test .taken) (s .pre .2) _ _ _ _ (l .loop .inv .2) _ (j .judge-entry .ensures) _ (a .frame .given .1) (s .pre .0) in
     (l .loop .inv .2, fits .0, fits .1, fits .2)
 
 fault-requires : tie.Need-fault-requires Inv-loop μ-loop
@@ -131,7 +131,7 @@ loop-again c =
       omega (arith, test),
       omega (arith, f .fault .ensures, fault-most (put .put .result), l .loop .inv .1),
       rw held (put .put .ensures .1 .0),
-      rw held (sym (check-on _ (l .loop .faults) _ _ _ test (s .pre .2) (s .pre .0) _ _ _ _ (l .loop .inv .2) _ (j .judge-entry .ensures) _ (a .frame .given .1) _ (put .put .ensures .0) _ (f .fault .ensures) _ (put .put .ensures .1 .1)) ∙ l .loop .inv .3),
+      rw held (sym (check-on _ _ _ _ test (s .pre .2) _ _ _ _ (l .loop .inv .2) _ (j .judge-entry .ensures) _ (a .frame .given .1) (l .loop .faults) (put .put .result) (put .put .ensures .0) _ (f .fault .ensures) _ (put .put .ensures .1 .1)) ∙ l .loop .inv .3),
     )
 
 returns-2 : tie.Need-returns-2 Inv-loop μ-loop
