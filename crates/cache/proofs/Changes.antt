@@ -14,7 +14,7 @@ use Rattle.paging.specs.Walk.{pages, zeroEntry}
 use Rattle.paging.specs.Calls.{frameLimit, requestLimit}
 use Rattle.paging.specs.declared.Entry.{Entry}
 use Rattle.paging.proofs.Choice.{chosen-below}
-use Rattle.paging.proofs.Frames.{mem-pages, Ways, ways, held-frame}
+use Rattle.paging.proofs.Frames.{pages-length, mem-pages, Ways, ways, held-frame}
 use Rattle.occupancy.proofs.Lowest.{map-ones}
 use Rattle.cache.specs.declared.Cache.{Cache}
 use Rattle.cache.specs.declared.Served.{Served}
@@ -42,6 +42,9 @@ served-places c p formed s = go (ways (c .frames) p (heldEntries c))
     l : length (heldEntries c) ≡ heldOf c
     l = held-length c formed s
 
+    in-use : length (pages (heldEntries c)) ≡ heldOf c
+    in-use = pages-length (heldEntries c) ∙ l
+
     go : Ways (c .frames) p (heldEntries c) → Places c p
     go (inl q) =
         let (h, e) = held-frame p (heldEntries c) q in
@@ -57,12 +60,12 @@ served-places c p formed s = go (ways (c .frames) p (heldEntries c))
         )
     go (inr (inl (q, h))) =
         let k : heldOf c < c .frames = omega (arith, l) in
-        rw (mem-pages p (heldEntries c) ∙ q, lt-ltb (heldOf c) (c .frames) k) (k, omega arith, refl, refl, omega (arith, s .parts .frames-most), sym (ap (λ (a : Served). a .next) (served-room c formed s p q k)))
+        rw (mem-pages p (heldEntries c) ∙ q, in-use, lt-ltb (heldOf c) (c .frames) k) (k, omega arith, refl, refl, omega (arith, s .parts .frames-most), sym (ap (λ (a : Served). a .next) (served-room c formed s p q k)))
     go (inr (inr (q, h))) =
         let k : c .frames ≤ heldOf c = omega (arith, l) in
         let m : chosen (ruleOf c) noRequests (heldEntries c) < c .frames =
         omega (arith, l, chosen-below (ruleOf c) noRequests (heldEntries c) (omega (arith, s .parts .frames-some)), s .parts .held-frames) in
-        rw (mem-pages p (heldEntries c) ∙ q, le-ltb (heldOf c) (c .frames) k) (m, omega arith, refl, refl, omega (arith, s .parts .held-frames, s .parts .frames-most), sym (ap (λ (a : Served). a .next) (served-full c formed s p q k .1)))
+        rw (mem-pages p (heldEntries c) ∙ q, in-use, le-ltb (heldOf c) (c .frames) k) (m, omega arith, refl, refl, omega (arith, s .parts .held-frames, s .parts .frames-most), sym (ap (λ (a : Served). a .next) (served-full c formed s p q k .1)))
 
 -- FEED APPLIES THE RULE TO THE ENTRIES AS THEY STAND: on any sound record, wherever the request is taken
 pub fed-applies : (c : Cache) (p : ℕ) → Formed c → sound c ≡ true → (p ≡ mark → ⊥) → (c .clock ≡ requestLimit → ⊥)

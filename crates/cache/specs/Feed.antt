@@ -7,10 +7,11 @@ use lib.Dec.{eqb, ltb}
 use Rattle.paging.specs.Lists.{pick, not}
 use Rattle.paging.specs.Rules.{mark, noRequests, chosen}
 use Rattle.paging.specs.Refusals.{table}
-use Rattle.paging.specs.Held.{found, ifHeld}
+use Rattle.paging.specs.Held.{found, ifHeld, frameAfter}
 use Rattle.paging.specs.Walk.{pages, entryAt, loadedAt, renewed, outcome, next}
 use Rattle.paging.specs.Calls.{frameLimit, requestLimit, Test, test, gate}
 use Rattle.paging.specs.declared.Entry.{Entry}
+use Rattle.paging.specs.declared.Found.the-variants.{At}
 use Rattle.paging.specs.declared.Gate.{Gate}
 use Rattle.paging.specs.declared.Gate.the-variants.{Open, No}
 use Rattle.paging.specs.declared.Outcome.{Outcome}
@@ -62,10 +63,8 @@ fed c p = fedBy (gate (feedTests c p)) c p
 
 -- the frame: that of the page; else, with room, the lowest free one; else that of the page that the rule drops
 unfoldable pub changedFrame : Cache → ℕ → ℕ
-unfolding found chosen
-changedFrame c p =
-    ifHeld (found p (pages (heldEntries c))) (λ (f : ℕ). f)
-    (pick (ltb (heldOf c) (c .frames)) (heldOf c) (chosen (ruleOf c) noRequests (heldEntries c)))
+unfolding frameAfter chosen
+changedFrame c p = frameAfter (c .frames) p (At (record { 0 = chosen (ruleOf c) noRequests (heldEntries c) })) (pages (heldEntries c))
 
 -- its entry: the page requested again, or loaded, at the clock
 unfoldable pub changedEntry : Cache → ℕ → Entry
