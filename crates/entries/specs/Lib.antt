@@ -1,3 +1,3 @@
--- The blank entry, and what the search of a frame and the choice of one answer.
+-- The blank entry, and what the choice of a frame answers; what the search of one answers is `found` of crate `paging`.
 pub mod Blank
 pub mod Devices

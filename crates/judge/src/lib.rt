@@ -23,7 +23,7 @@ pub struct VerdictNumbers {
     pub place: u32,
 }
 
-// Check: the faults of the plan in the first T words; else refusal 2, 3, 4 or 6, or 7 at the first entry that breaks the rule.
+// Check: what the walk of the plan in the first T words answers, refusals 2, 3, 4 and 6 before it.
 pub fn check(m: u32, trace: &[u32], words: &[u32]) -> Answer
     ensures { λ r. ⌜ (r ≡ checkOf m (now (trace .entry)) (now (words .entry))) × (answerNumbers r ≡ answerNumbers (checkOf m (now (trace .entry)) (now (words .entry)))) ⌝ }
 {

@@ -1,4 +1,4 @@
-// The words of document 01: pages, frames and moments, the four rules, what a request comes to, and the twelve ways to say no.
+// The words of document 01: pages, frames and moments, which frame holds a page, the four rules, what a request comes to, and the twelve ways to say no.
 // The rules themselves, the walk and plans are definitions in specs/; their laws are in proofs/.
 ghost use mathlib.Core.Path.{_≡_};
 ghost use Rattle.paging.specs.Refusals.{table, gateNumbers};
