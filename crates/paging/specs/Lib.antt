@@ -1,4 +1,4 @@
--- Document 01's definitions, and of document 02 which frame holds a page, which the contracts of the other crates cite, and its worked cases.
+-- Document 01's definitions and, of document 02, which frame holds a page: what the contracts of the other crates cite, and worked cases.
 pub mod Lists
 pub mod Refusals
 pub mod Held
