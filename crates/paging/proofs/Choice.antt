@@ -6,16 +6,17 @@ use mathlib.Core.Bool.{Bool, true, false}
 use mathlib.Core.List.{List}
 use Prim.Native.Nat.{ℕ, _-_, _≤_, _<_}
 use native.Mathlib.Omega.{arith}
+use native.Mathlib.Decide.{ℕ-discrete}
 use lib.Dec.{eqb, leb}
 use lib.ListN.{length}
-use borrow.Author.Tests.{le-leb, eqb-true}
-use Rattle.paging.specs.Lists.{pick, both, implies, any, all}
+use borrow.Author.Tests.{le-leb, leb-true, eqb-true}
+use Rattle.paging.specs.Lists.{pick, both, implies, any, all, indexOf}
 use Rattle.paging.specs.Rules.{Sees, nextOf, never, once, lruDrops, fifoDrops, minDrops, lru2Drops, drops, chosen}
 use Rattle.paging.specs.Walk.{zeroEntry, entryAt}
 use Rattle.paging.specs.declared.Entry.{Entry}
 use Rattle.paging.specs.declared.Rule.{Rule}
 use Rattle.paging.specs.declared.Rule.the-variants.{Lru, Fifo, Min, Lru2}
-use Rattle.paging.proofs.Lists.{bool-cases, both-true, implies-true, index-le, index-passes, any-index, at-any, none-at, at-all, least-among}
+use Rattle.paging.proofs.Lists.{bool-cases, both-first, both-second, both-true, implied, implies-true, index-le, index-passes, any-index, at-any, none-at, all-at, at-all, least-among, index-is}
 
 -- some frame in use whose entry passes the test
 abbrev Some : (Entry → Bool) → List Entry → Type 0
@@ -40,6 +41,38 @@ least-all : (key : Entry → ℕ) (es : List Entry) → 0 < length es
 least-all key es h =
     let (i, (k, g, least)) = least-among zeroEntry (λ (e : Entry). true) key es (at-any (λ (e : Entry). true) zeroEntry es 0 h refl) in
     (i, k, at-all (λ (d : Entry). leb (key (entryAt es i)) (key d)) zeroEntry es (λ j l. le-leb _ _ (least j l refl)))
+
+-- of the entries that pass a test, the one whose number is less than that of every other is the first with the least
+module _
+    (good : Entry → Bool) (key : Entry → ℕ) (es : List Entry) (f : ℕ) (h : f < length es) (passes : good (entryAt es f) ≡ true)
+    (less : (j : ℕ) → j < length es → good (entryAt es j) ≡ true → (j ≡ f → ⊥) → key (entryAt es f) < key (entryAt es j))
+  where
+    -- d comes no sooner than e
+    no-sooner : Entry → Entry → Bool
+    no-sooner e d = implies (good d) (leb (key e) (key d))
+
+    pub least-index : indexOf (λ (e : Entry). both (good e) (all (λ (d : Entry). implies (good d) (leb (key e) (key d))) es)) es ≡ f
+    unfolding no-sooner
+    least-index = index-is (λ (e : Entry). both (good e) (all (no-sooner e) es)) zeroEntry es f h fits only
+      where
+        fits : both (good (entryAt es f)) (all (no-sooner (entryAt es f)) es) ≡ true
+        fits =
+            both-true (good (entryAt es f)) (all (no-sooner (entryAt es f)) es) passes
+            (at-all (no-sooner (entryAt es f)) zeroEntry es
+            (λ j k. implies-true (good (entryAt es j)) (leb (key (entryAt es f)) (key (entryAt es j)))
+            (λ g. le-leb (key (entryAt es f)) (key (entryAt es j)) (elim (ℕ-discrete j f) [ yes e ↦ rw e (omega arith) | no e ↦ omega (arith, less j k g e) ]))))
+
+        only : (j : ℕ) → j < length es → both (good (entryAt es j)) (all (no-sooner (entryAt es j)) es) ≡ true → j ≡ f
+        only j k a =
+            elim (ℕ-discrete j f) [
+              | yes e ↦ e
+              | no e ↦
+                  let g : good (entryAt es j) ≡ true = both-first (good (entryAt es j)) (all (no-sooner (entryAt es j)) es) a in
+                  let among : all (no-sooner (entryAt es j)) es ≡ true = both-second (good (entryAt es j)) (all (no-sooner (entryAt es j)) es) a in
+                  let l : key (entryAt es j) ≤ key (entryAt es f) =
+                  leb-true _ _ (implied (good (entryAt es f)) (leb (key (entryAt es j)) (key (entryAt es f))) (all-at (no-sooner (entryAt es j)) zeroEntry es among f h) passes) in
+                  absurd (omega (arith, less j k g e))
+            ]
 
 -- ---- each rule
 

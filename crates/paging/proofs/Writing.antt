@@ -2,21 +2,23 @@
 --
 -- `Reading whole left words₀ words f i`: of the outcomes `whole` the first i are read, with f faults, and `left` are to come; the words were lent as
 -- `words₀` and are now `words`. It holds for the walk of any rule, whatever state the loop keeps.
+-- `Running rule n trace words₀ words f i` is the same of a rule's walk from empty: what is left is its walk on from the definition's own state at moment i.
 -- Assumes nothing.
-use mathlib.Core.Path.{_≡_, refl, sym, ap, ap₂, _∙_}
+use mathlib.Core.Path.{_≡_, refl, sym, ap, ap₂, _∙_, subst}
 use mathlib.Core.List.{List, [], _∷_, _++_, append-nil}
 use Prim.Native.Nat.{ℕ, suc, _+_, _-_, _≤_, _<_}
 use native.Mathlib.Numerals.{add-one}
 use native.Mathlib.Omega.{arith}
 use native.Mathlib.Decide.{decLt}
-use lib.ListN.{length, take, drop, set, length-set, take-append-drop}
-use lib.Seq.{take-suc-set, take-all, take-nil, drop-set-lt, drop-drop, set-out, append-snoc}
-use Rattle.paging.specs.Walk.{outcomes, faultOf, wordOf, faultsIn, planIn, plan}
+use lib.ListN.{length, take, drop, set, length-set, take-append-drop, drop-of-length-le}
+use lib.Seq.{take-suc, take-suc-set, take-all, take-nil, drop-cons, drop-set-lt, drop-drop, set-out, append-snoc}
+use Rattle.paging.specs.Walk.{outcomes, faultOf, wordOf, faultsIn, planIn, faults, plan, entriesAt}
 use Rattle.paging.specs.Services.{laid}
 use Rattle.paging.specs.declared.Entry.{Entry}
 use Rattle.paging.specs.declared.Rule.{Rule}
 use Rattle.paging.specs.declared.Outcome.{Outcome}
 use Rattle.paging.specs.declared.Outcome.the-variants.{Hit, Loaded, Dropped}
+use Rattle.paging.proofs.Frames.{outcomeAt}
 
 -- ---- one word for each outcome
 
@@ -104,3 +106,38 @@ reading-ends whole words₀ words f i r e =
           (sym (append-nil (take i words)) ∙ ap (λ (xs : List ℕ). take i words ++ xs) (sym (take-nil (length words - i))) ∙ r .front ∙ ap (λ (k : ℕ). take k (planIn whole)) size)
           (r .back ∙ ap (λ (k : ℕ). drop k words₀) past),
     )
+
+-- ---- the loop of a rule's walk from empty
+
+pub record Running (rule : Rule) (n : ℕ) (trace words₀ words : List ℕ) (f i : ℕ) : Type 0 where
+  pub passed : i ≤ length trace
+  pub reading : Reading (outcomes rule n 0 [] trace []) (outcomes rule n i (take i trace) (drop i trace) (entriesAt rule n trace i)) words₀ words f i
+
+module _ (rule : Rule) (n : ℕ) (trace words₀ : List ℕ) where
+  pub running-starts : Running rule n trace words₀ words₀ 0 0
+  unfolding entriesAt
+  running-starts = record { passed = omega arith; reading = reading-starts (outcomes rule n 0 [] trace []) words₀ }
+
+  module _ (words : List ℕ) (f i : ℕ) (r : Running rule n trace words₀ words f i) where
+    -- the outcomes left are that of moment i and the later ones
+    left : i < length trace → outcomes rule n i (take i trace) (drop i trace) (entriesAt rule n trace i)
+        ≡ outcomeAt rule n trace i ∷ outcomes rule n (i + 1) (take (i + 1) trace) (drop (i + 1) trace) (entriesAt rule n trace (i + 1))
+    unfolding outcomes entriesAt
+    left more = rw (drop-cons trace i 0 more, add-one i, take-suc trace i 0 more)
+
+    pub running-steps : i < length trace → (o : Outcome) → o ≡ outcomeAt rule n trace i → Running rule n trace words₀ (set words i (wordOf o)) (f + faultOf o) (i + 1)
+    running-steps more o told =
+        record {
+          passed = omega arith;
+          reading =
+              reading-steps (outcomes rule n 0 [] trace []) o _ words₀ words f i
+              (subst (λ (os : List Outcome). Reading (outcomes rule n 0 [] trace []) os words₀ words f i) (rw told (left more)) (r .reading));
+        }
+
+    pub running-ends : length trace ≤ i → (f ≡ faults rule n trace) × (words ≡ laid (plan rule n trace) words₀)
+    unfolding faults plan outcomes
+    running-ends all =
+        reading-ends (outcomes rule n 0 [] trace []) words₀ words f i
+        (subst (λ (ps : List ℕ). Reading (outcomes rule n 0 [] trace []) (outcomes rule n i (take i trace) ps (entriesAt rule n trace i)) words₀ words f i)
+        (drop-of-length-le trace all) (r .reading))
+        (let e : i ≡ length (outcomes rule n 0 [] trace []) = omega (arith, r .passed, outcomes-length rule n 0 [] trace []) in e)

@@ -1,0 +1,2 @@
+-- What the proofs of FIFO over a whole trace use.
+pub mod Round

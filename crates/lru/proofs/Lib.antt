@@ -1,0 +1,2 @@
+-- What the proofs of LRU over a whole trace use.
+pub mod Lasts

@@ -1,0 +1,1 @@
+-- The contracts of LRU over a whole trace cite document 01's definitions alone.

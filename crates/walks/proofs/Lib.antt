@@ -1,0 +1,3 @@
+-- What the proofs of the rules' walks use.
+pub mod Hands
+pub mod Walking

@@ -1,0 +1,3 @@
+-- What the contracts of the rules' walks cite.
+pub mod Hands
+pub mod Tied

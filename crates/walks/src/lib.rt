@@ -1,0 +1,81 @@
+// What the walks of the rules over a whole trace have in common, beside the pages held (crate `held`): the frame for a page that is requested,
+// where the walk knows which page would go; a hand that goes over the moments; the fault of an outcome and its word of the plan; how many pages are held then.
+//
+// `served` has the frame in which the page of each moment stood then. A list of moments has one for each frame.
+ghost use mathlib.Core.Path.{_≡_};
+ghost use Prim.Native.Nat.{_≤_};
+ghost use lib.ListN.{length, take, set};
+ghost use Rattle.paging.specs.Calls.{frameLimit};
+ghost use Rattle.paging.specs.Held.{frameAfter};
+ghost use Rattle.paging.specs.Walk.{faultOf, wordOf};
+ghost use Rattle.paging.specs.declared.Found.the-variants.{At};
+ghost use Rattle.held.specs.Index.{Indexed};
+ghost use Rattle.held.specs.Placing.{putCount};
+ghost use Rattle.walks.specs.Hands.{Stopped};
+use paging::Found;
+use paging::Frame;
+use paging::Outcome;
+use paging::Page;
+
+// The frame for a page that is requested in n frames: its own, if it is held; the next free one; else that of the page that goes.
+pub fn frame_for(
+    n: usize,
+    page: Page,
+    goes: Frame,
+    held: usize,
+    pages: &[u32],
+    counts: &[u16],
+    hints: &[u8],
+) -> Frame
+    requires { ⌜ Indexed held (now pages) (now counts) (now hints) ⌝ }
+    ensures { λ r. ⌜ r .0 ≡ frameAfter n (page .0) (At goes) (take held (now (pages .entry))) ⌝ }
+{
+    match held::find(page, held, pages, counts, hints) {
+        Found::At(frame) => frame,
+        Found::Absent => {
+            if held < n {
+                return Frame(held as u32);
+            }
+            goes
+        }
+    }
+}
+
+// The first moment, from the hand on, that both lists have for the frame served then; where there is none before `end`, that.
+pub fn onward(hand: usize, end: usize, served: &[u8], moments: &[u16], others: &[u16]) -> usize
+    requires { ⌜ (hand ≤ end) × (end ≤ length (now served)) × (length (now moments) ≡ frameLimit) × (length (now others) ≡ frameLimit) ⌝ }
+    ensures { λ r. ⌜ Stopped hand end r (now (moments .entry)) (now (others .entry)) (now (served .entry)) ⌝ }
+{
+    let mut at = hand;
+    while at < end {
+        let frame = served[at] as usize;
+        if moments[frame] as usize == at {
+            if others[frame] as usize == at {
+                return at;
+            }
+        }
+        at += 1;
+    }
+    at
+}
+
+// The fault of the outcome of moment i; its word of the plan goes into the lent words, if there is one for it.
+pub fn told(outcome: Outcome, i: usize, words: &mut [u32]) -> u32
+    ensures { λ r. ⌜ (r ≡ faultOf outcome) × (now (words .exit) ≡ set (now (words .entry)) i (wordOf outcome)) ⌝ }
+{
+    if i < words.len() {
+        words[i] = outcome.word();
+    }
+    outcome.fault()
+}
+
+// How many pages are held, once a page is put into the frame: one more, if it was free.
+pub fn count_after(frame: Frame, held: usize) -> usize
+    requires { ⌜ held ≤ frameLimit ⌝ }
+    ensures { λ r. ⌜ r ≡ putCount (frame .0) held ⌝ }
+{
+    if held <= frame.0 as usize {
+        return held + 1;
+    }
+    held
+}
