@@ -1,6 +1,6 @@
 -- Count and Write a plan, where the gate is open and where it is not.
 -- Assumes nothing.
-use mathlib.Core.Path.{_≡_, ap}
+use mathlib.Core.Path.{_≡_, sym, ap, _∙_}
 use mathlib.Core.List.{List}
 use Prim.Native.Nat.{ℕ}
 use Rattle.paging.specs.Walk.{faults, plan}
@@ -31,6 +31,15 @@ module _ (tests : List Test) (rule : Rule) (n : ℕ) (trace : List ℕ) where
   pub written-no : (words : List ℕ) (refusal : Refusal) → gate tests ≡ No refusal → written tests rule n trace words ≡ words
   unfolding written
   written-no words refusal e = ap (λ (g : Gate). leftBy g (plan rule n trace) words) e
+
+  -- so much of a call that asks the chain itself and then walks: what it answers and leaves in the lent words
+  pub walk-open : gate tests ≡ Open → (f : ℕ) (words left : List ℕ) → (f ≡ faults rule n trace) × (left ≡ laid (plan rule n trace) words)
+      → (Faults f ≡ answered tests rule n trace) × (left ≡ written tests rule n trace words)
+  walk-open e f words left (counted, laid-over) = (ap Faults counted ∙ sym (answered-open e), laid-over ∙ sym (written-open words e))
+
+  pub walk-no : (refusal : Refusal) → gate tests ≡ No refusal → (words : List ℕ)
+      → (Refused refusal ≡ answered tests rule n trace) × (words ≡ written tests rule n trace words)
+  walk-no refusal e words = (sym (answered-no refusal e), sym (written-no words refusal e))
 
 -- chains with the same gate answer the same
 module _ (xs ys : List Test) (same : gate xs ≡ gate ys) (rule : Rule) (n : ℕ) (trace : List ℕ) where
