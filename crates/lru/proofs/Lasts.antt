@@ -7,24 +7,28 @@ use mathlib.Core.List.{List, []}
 use Prim.Native.Nat.{ℕ, _+_, _≤_, _<_}
 use native.Mathlib.Omega.{arith}
 use native.Mathlib.Decide.{ℕ-discrete}
-use lib.ListN.{length, getD, set, replicate, length-set, length-replicate}
+use lib.ListN.{length, getD, set, take, replicate, length-set, length-replicate, getD-replicate}
 use lib.Seq.{getD-set-same, getD-set-other}
 use Rattle.paging.specs.Rules.{Sees, lruDrops, drops, chosen}
-use Rattle.paging.specs.Walk.{entryAt}
+use Rattle.paging.specs.Walk.{entryAt, seesAt, entriesAt}
+use Rattle.paging.specs.Held.{frameAfter}
 use Rattle.paging.specs.Calls.{frameLimit, requestLimit}
 use Rattle.paging.specs.declared.Entry.{Entry}
+use Rattle.paging.specs.declared.Found.the-variants.{At}
 use Rattle.paging.specs.declared.Rule.the-variants.{Lru}
 use Rattle.paging.specs.declared.Outcome.{Outcome}
 use Rattle.paging.proofs.Choice.{least-index}
 use Rattle.walks.specs.Hands.{Stopped}
-use Rattle.walks.proofs.Hands.{Hand, hand-moves, hand-stops, hand-least, hand-served, used-served}
-use Rattle.walks.proofs.Walking.{Served}
+use Rattle.walks.specs.Tied.{seatAt, Tied}
+use Rattle.walks.proofs.Hands.{Hand, hand-moves, hand-stops, hand-least, hand-served, below-served}
+use Rattle.walks.proofs.Walking.{Served, seat-is, size}
 
 -- just before moment t: each frame's last moment, and the frame of each moment served
 pub record Lasts (t hand : ℕ) (es : List Entry) (last served : List ℕ) : Type 0 where
   pub frames : length last ≡ frameLimit
   pub moments : length served ≡ requestLimit
   pub lasts : (f : ℕ) → f < length es → getD last f 0 ≡ entryAt es f .last .0
+  pub bytes : (k : ℕ) → k < requestLimit → getD served k 0 < frameLimit
   pub used : (k : ℕ) → k < t → getD served k 0 < length es
   pub over : Hand t hand (length es) last last served
 
@@ -34,6 +38,7 @@ lasts-start =
       frames = length-replicate {A = ℕ} frameLimit 0;
       moments = length-replicate {A = ℕ} requestLimit 0;
       lasts = λ f h. absurd (omega arith);
+      bytes = λ k h. rw (getD-replicate {A = ℕ} requestLimit k 0 0 h) (omega arith);
       used = λ k h. absurd (omega arith);
       over = record { onward = omega arith; past = λ f h. absurd (omega arith); by = λ f h. absurd (omega arith); behind = λ f h. absurd (omega arith) };
     }
@@ -46,6 +51,7 @@ module _ (t hand : ℕ) (es : List Entry) (last served : List ℕ) (x : Lasts t 
         frames = x .frames;
         moments = x .moments;
         lasts = x .lasts;
+        bytes = x .bytes;
         used = x .used;
         over = hand-moves t hand (length es) last last served (x .over) at s;
       }
@@ -73,7 +79,8 @@ lasts-step t hand es last served x early p o f es' s small =
         | yes e ↦ rw e (own ∙ sym now)
         | no e ↦ other j e ∙ x .lasts j (s .others j h e .0) ∙ ap (λ (d : Entry). d .last .0) (sym (s .others j h e .1))
       ];
-      used = used-served t f (length es) (length es') served soon (s .inside) (s .grows) (x .used);
+      bytes = λ k h. below-served t f frameLimit frameLimit served soon small (omega arith) k (λ e. x .bytes k h);
+      used = λ k h. below-served t f (length es) (length es') served soon (s .inside) (s .grows) k (λ e. x .used k (omega arith));
       over =
           hand-served t hand (length es) last last served (x .over) f t (length es') (set last f t) soon inside (omega arith)
           (getD-set-same served t f 0 soon) (λ e. x .over .onward) (λ j h d. (s .others j h d .0, other j d));
@@ -94,3 +101,13 @@ lasts-step t hand es last served x early p o f es' s small =
     -- a request is the last of its page, whether it is a hit or not
     now : entryAt es' f .last .0 ≡ t
     now = ⊎-elim (λ w. ap (λ (d : Entry). d .last .0) (w .2)) (λ w. ap (λ (d : Entry). d .last .0) (w .1)) (s .own)
+
+-- the frame that the walk takes is the definition's
+pub lasts-seat : (n : ℕ) (trace : List ℕ) (t held hand : ℕ) (words counts hints last served : List ℕ)
+    → Tied Lru n trace t held words counts hints → Lasts t hand (entriesAt Lru n trace t) last served → 1 ≤ n
+    → (at : ℕ) → Stopped hand t at last last served
+    → (f : ℕ) → f ≡ frameAfter n (getD trace t 0) (At (record { 0 = getD served at 0 })) (take held words) → f ≡ seatAt Lru n trace t
+lasts-seat n trace t held hand words counts hints last served x l some at s f e =
+    e
+    ∙ seat-is Lru n trace t held words counts hints x (getD served at 0)
+    (λ full. hand-chosen t hand (entriesAt Lru n trace t) last served l at s (seesAt trace t) (omega (arith, size Lru n trace t held words counts hints x)))

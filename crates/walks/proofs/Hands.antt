@@ -87,11 +87,11 @@ module _
           ];
         }
 
--- every frame served so far is in use
-pub used-served : (t f held held' : ℕ) (served : List ℕ) → t < length served → f < held' → held ≤ held'
-    → ((k : ℕ) → k < t → getD served k 0 < held) → (k : ℕ) → k < t + 1 → getD (set served t f) k 0 < held'
-used-served t f held held' served early inside grows used k l =
+-- frames served so far are below a bound, and so is f
+pub below-served : (t f b b' : ℕ) (served : List ℕ) → t < length served → f < b' → b ≤ b' → (k : ℕ) → ((k ≡ t → ⊥) → getD served k 0 < b)
+    → getD (set served t f) k 0 < b'
+below-served t f b b' served early inside grows k before =
     elim (ℕ-discrete k t) [
       | yes e ↦ rw (e, getD-set-same served t f 0 early) inside
-      | no e ↦ rw (getD-set-other served t k f 0 e) (omega (arith, used k (omega arith)))
+      | no e ↦ rw (getD-set-other served t k f 0 e) (omega (arith, before e))
     ]
