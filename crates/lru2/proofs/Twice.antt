@@ -10,22 +10,25 @@ use Prim.Native.Nat.{ℕ, _+_, _≤_, _<_}
 use native.Mathlib.Omega.{arith}
 use native.Mathlib.Decide.{ℕ-discrete, decLt}
 use lib.Dec.{leb}
-use lib.ListN.{length, getD, set, replicate, length-set, length-replicate}
+use lib.ListN.{length, getD, set, take, replicate, length-set, length-replicate, getD-replicate}
 use lib.Seq.{getD-set-same, getD-set-other}
 use borrow.Author.Tests.{lt-ltb, le-ltb, eq-eqb, ne-eqb}
 use Rattle.paging.specs.Lists.{pick, both, implies, any, all, indexOf}
 use Rattle.paging.specs.Rules.{mark, Sees, once, lru2Drops, drops, chosen}
-use Rattle.paging.specs.Walk.{zeroEntry, entryAt, loadedAt, renewed, faultOf}
+use Rattle.paging.specs.Walk.{zeroEntry, entryAt, loadedAt, renewed, faultOf, seesAt, entriesAt}
+use Rattle.paging.specs.Held.{frameAfter}
 use Rattle.paging.specs.Calls.{frameLimit, requestLimit}
 use Rattle.paging.specs.declared.Entry.{Entry}
+use Rattle.paging.specs.declared.Found.the-variants.{At}
 use Rattle.paging.specs.declared.Rule.the-variants.{Lru2}
 use Rattle.paging.specs.declared.Outcome.{Outcome}
 use Rattle.paging.specs.declared.Outcome.the-variants.{Hit}
 use Rattle.paging.proofs.Lists.{true≢false, bool-cases, at-any, at-none, index-same}
 use Rattle.paging.proofs.Choice.{least-index}
 use Rattle.walks.specs.Hands.{Stopped}
-use Rattle.walks.proofs.Hands.{Hand, hand-moves, hand-stops, hand-least, hand-served, used-served}
-use Rattle.walks.proofs.Walking.{Served}
+use Rattle.walks.specs.Tied.{seatAt, Tied}
+use Rattle.walks.proofs.Hands.{Hand, hand-moves, hand-stops, hand-least, hand-served, below-served}
+use Rattle.walks.proofs.Walking.{Served, seat-is, size}
 use Rattle.lru2.specs.Devices.{handOf, earlierFor}
 
 -- just before moment t: each frame's last moment and the one before it, which is the last again for a page requested once; the frame of each moment served
@@ -36,6 +39,7 @@ pub record Twice (t first second : ℕ) (es : List Entry) (last earlier served :
   pub lasts : (f : ℕ) → f < length es → getD last f 0 ≡ entryAt es f .last .0
   pub only : (f : ℕ) → f < length es → once (entryAt es f) ≡ true → getD last f 0 ≡ getD earlier f 0
   pub again : (f : ℕ) → f < length es → once (entryAt es f) ≡ false → (getD earlier f 0 ≡ entryAt es f .earlier .0) × (getD earlier f 0 < getD last f 0)
+  pub bytes : (k : ℕ) → k < requestLimit → getD served k 0 < frameLimit
   pub used : (k : ℕ) → k < t → getD served k 0 < length es
   pub over-last : Hand t first (length es) last earlier served
   pub over-earlier : Hand t second (length es) earlier earlier served
@@ -49,6 +53,7 @@ twice-starts =
       lasts = λ f h. absurd (omega arith);
       only = λ f h. absurd (omega arith);
       again = λ f h. absurd (omega arith);
+      bytes = λ k h. rw (getD-replicate {A = ℕ} requestLimit k 0 0 h) (omega arith);
       used = λ k h. absurd (omega arith);
       over-last = record { onward = omega arith; past = λ f h. absurd (omega arith); by = λ f h. absurd (omega arith); behind = λ f h. absurd (omega arith) };
       over-earlier = record { onward = omega arith; past = λ f h. absurd (omega arith); by = λ f h. absurd (omega arith); behind = λ f h. absurd (omega arith) };
@@ -83,63 +88,72 @@ module _
           lasts = x .lasts;
           only = x .only;
           again = x .again;
+          bytes = x .bytes;
           used = x .used;
           over-last = hand-moves t first (length es) last earlier served (x .over-last) at s;
           over-earlier = hand-moves t second (length es) earlier earlier served (x .over-earlier) at₂ s₂;
         }
 
     -- the first hand stopped: at the only request of a page
-    by-first : (sees : Sees) → at < t → getD served at 0 ≡ chosen Lru2 sees es
-    by-first sees early = sym (chosen-by sees es true (at-any once zeroEntry es f there single) ∙ least-index once (λ (e : Entry). e .last .0) es f there single less)
-      where
-        f : ℕ
-        f = getD served at 0
+    module _ (early : at < t) where
+      abbrev f : ℕ
+      f = getD served at 0
 
-        there : f < length es
-        unfolding f
-        there = x .used at early
+      there : f < length es
+      there = x .used at early
 
-        stays : (getD last f 0 ≡ at) × (getD earlier f 0 ≡ at)
-        unfolding f
-        stays = s .here early
+      single : once (entryAt es f) ≡ true
+      single = ⊎-elim (λ e. e) (λ e. absurd (omega (arith, s .here early .0, s .here early .1, x .again f there e .1))) (bool-cases (once (entryAt es f)))
 
-        single : once (entryAt es f) ≡ true
-        single = ⊎-elim (λ e. e) (λ e. absurd (omega (arith, stays .0, stays .1, x .again f there e .1))) (bool-cases (once (entryAt es f)))
-
-        less : (j : ℕ) → j < length es → once (entryAt es j) ≡ true → (j ≡ f → ⊥) → entryAt es f .last .0 < entryAt es j .last .0
-        unfolding f
-        less j h g d = rw (← x .lasts j h, ← x .lasts f there, stays .0) (hand-least t first (length es) last earlier served (x .over-last) at s j h (x .only j h g) d)
+      by-first : (sees : Sees) → f ≡ chosen Lru2 sees es
+      by-first sees =
+          sym
+          (chosen-by sees es true (at-any once zeroEntry es f there single)
+          ∙ least-index once (λ (e : Entry). e .last .0) es f there single
+          (λ j h g d.
+          rw (← x .lasts j h, ← x .lasts f there, s .here early .0)
+          (hand-least t first (length es) last earlier served (x .over-last) at s j h (x .only j h g) d)))
 
     -- it stopped nowhere: every page was requested again
-    by-second : (sees : Sees) → t ≤ at → 0 < length es → getD served at₂ 0 ≡ chosen Lru2 sees es
-    by-second sees none some = sym (chosen-by sees es false (at-none once zeroEntry es (λ j h e. true≢false (sym e ∙ twice j h))) ∙ least-index (λ (e : Entry). true) (λ (e : Entry). e .earlier .0) es f there refl less)
-      where
-        twice : (j : ℕ) → j < length es → once (entryAt es j) ≡ false
-        twice j h = ⊎-elim (λ e. absurd (omega (arith, hand-stops t first (length es) last earlier served (x .over-last) at s j h (x .only j h e)))) (λ e. e) (bool-cases (once (entryAt es j)))
+    module _ (none : t ≤ at) (some : 0 < length es) where
+      twice : (j : ℕ) → j < length es → once (entryAt es j) ≡ false
+      twice j h =
+          ⊎-elim (λ e. absurd (omega (arith, hand-stops t first (length es) last earlier served (x .over-last) at s j h (x .only j h e)))) (λ e. e)
+          (bool-cases (once (entryAt es j)))
 
-        early : at₂ < t
-        early = hand-stops t second (length es) earlier earlier served (x .over-earlier) at₂ s₂ 0 some refl
+      early₂ : at₂ < t
+      early₂ = hand-stops t second (length es) earlier earlier served (x .over-earlier) at₂ s₂ 0 some refl
 
-        f : ℕ
-        f = getD served at₂ 0
+      abbrev f₂ : ℕ
+      f₂ = getD served at₂ 0
 
-        there : f < length es
-        unfolding f
-        there = x .used at₂ early
+      there₂ : f₂ < length es
+      there₂ = x .used at₂ early₂
 
-        less : (j : ℕ) → j < length es → true ≡ true → (j ≡ f → ⊥) → entryAt es f .earlier .0 < entryAt es j .earlier .0
-        unfolding f
-        less j h g d =
-            rw (← x .again j h (twice j h) .0, ← x .again f there (twice f there) .0, s₂ .here early .0)
-            (hand-least t second (length es) earlier earlier served (x .over-earlier) at₂ s₂ j h refl d)
+      by-second : (sees : Sees) → f₂ ≡ chosen Lru2 sees es
+      by-second sees =
+          sym
+          (chosen-by sees es false (at-none once zeroEntry es (λ j h e. true≢false (sym e ∙ twice j h)))
+          ∙ least-index (λ (e : Entry). true) (λ (e : Entry). e .earlier .0) es f₂ there₂ refl
+          (λ j h g d.
+          rw (← x .again j h (twice j h) .0, ← x .again f₂ there₂ (twice f₂ there₂) .0, s₂ .here early₂ .0)
+          (hand-least t second (length es) earlier earlier served (x .over-earlier) at₂ s₂ j h refl d)))
 
     -- THE FRAME SERVED AT THE HAND THAT COUNTS IS THE ONE CHOSEN
     pub hand-chosen : (hand : ℕ) → hand ≡ handOf at at₂ t → (sees : Sees) → 0 < length es → getD served hand 0 ≡ chosen Lru2 sees es
     hand-chosen hand e sees some =
         elim (decLt at t) [
-          | yes h ↦ rw (e, lt-ltb at t h) (by-first sees h)
-          | no h ↦ let k : t ≤ at = omega arith in rw (e, le-ltb at t k) (by-second sees k some)
+          | yes h ↦ rw (e, lt-ltb at t h) (by-first h sees)
+          | no h ↦ let k : t ≤ at = omega arith in rw (e, le-ltb at t k) (by-second k some sees)
         ]
+
+-- either hand stops by the end
+pub hand-inside : (at at₂ t : ℕ) → at₂ ≤ t → (hand : ℕ) → hand ≡ handOf at at₂ t → hand ≤ t
+hand-inside at at₂ t h hand e =
+    elim (decLt at t) [
+      | yes k ↦ rw (e, lt-ltb at t k) (omega arith)
+      | no k ↦ rw (e, le-ltb at t (let l : t ≤ at = omega arith in l)) h
+    ]
 
 -- ---- one request, with its page in frame f then
 
@@ -193,7 +207,8 @@ module _
                 | yes e ↦ rw (e, own, own₂) two
                 | no e ↦ rw (other j e, other₂ j e, s .others j h e .1) (x .again j (s .others j h e .0))
               ];
-              used = used-served t f (length es) (length es') served soon (s .inside) (s .grows) (x .used);
+              bytes = λ k h. below-served t f frameLimit frameLimit served soon small (omega arith) k (λ e. x .bytes k h);
+              used = λ k h. below-served t f (length es) (length es') served soon (s .inside) (s .grows) k (λ e. x .used k (omega arith));
               over-last =
                   hand-served t first (length es) last earlier served (x .over-last) f t (length es') (set earlier f m) soon inside (omega arith)
                   (getD-set-same served t f 0 soon) (λ e. x .over-last .onward) (λ j h d. (s .others j h d .0, other₂ j d));
@@ -235,3 +250,13 @@ module _
             (rw q (getD-set-same served t f 0 soon))
             (omega (arith, x .over-earlier .onward))
             (ap (λ (d : Entry). d .last .0) is)
+
+-- the frame that the walk takes is the definition's
+pub twice-seat : (n : ℕ) (trace : List ℕ) (t held first second : ℕ) (words counts hints last earlier served : List ℕ)
+    → Tied Lru2 n trace t held words counts hints → Twice t first second (entriesAt Lru2 n trace t) last earlier served → 1 ≤ n
+    → (at : ℕ) → Stopped first t at last earlier served → (at₂ : ℕ) → Stopped second t at₂ earlier earlier served → (hand : ℕ) → hand ≡ handOf at at₂ t
+    → (f : ℕ) → f ≡ frameAfter n (getD trace t 0) (At (record { 0 = getD served hand 0 })) (take held words) → f ≡ seatAt Lru2 n trace t
+twice-seat n trace t held first second words counts hints last earlier served x w some at s at₂ s₂ hand is f e =
+    e
+    ∙ seat-is Lru2 n trace t held words counts hints x (getD served hand 0)
+    (λ full. hand-chosen t first second (entriesAt Lru2 n trace t) last earlier served w at s at₂ s₂ hand is (seesAt trace t) (omega (arith, size Lru2 n trace t held words counts hints x)))
