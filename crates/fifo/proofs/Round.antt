@@ -7,19 +7,17 @@ use mathlib.Core.List.{List, [], _∷_, _++_}
 use Prim.Native.Nat.{ℕ, suc, _+_, _≤_, _<_}
 use native.Mathlib.Omega.{arith}
 use native.Mathlib.Decide.{ℕ-discrete, decLt}
-use lib.ListN.{length, getD, set, take, length-set}
+use lib.ListN.{length, set, length-set}
 use borrow.Author.Tests.{lt-ltb, le-ltb}
 use Rattle.paging.specs.Rules.{Sees, fifoDrops, drops, chosen}
 use Rattle.paging.specs.Walk.{zeroEntry, entryAt, loadedAt, renewed, faultOf, seesAt, entriesAt}
-use Rattle.paging.specs.Held.{frameAfter}
 use Rattle.paging.specs.declared.Entry.{Entry}
-use Rattle.paging.specs.declared.Found.the-variants.{At}
 use Rattle.paging.specs.declared.Rule.the-variants.{Fifo}
 use Rattle.paging.specs.declared.Outcome.{Outcome}
 use Rattle.paging.proofs.Lists.{length-snoc, set-cases}
 use Rattle.paging.proofs.Choice.{least-index}
-use Rattle.walks.specs.Tied.{seatAt, Tied}
-use Rattle.walks.proofs.Walking.{Way, Served, way-serves, seat-is, size}
+use Rattle.walks.specs.Tied.{Tied}
+use Rattle.walks.proofs.Walking.{Way, Served, way-serves, size}
 use Rattle.fifo.specs.Devices.{nextAfter}
 
 -- frame i comes before frame j, where the frames go round from `next`
@@ -153,10 +151,8 @@ module _ (n t next : ℕ) (es : List Entry) (r : Round n t next es) where
           let size : length es' ≡ length es = ap length is ∙ length-set es f (loadedAt t p) in
           fault-in q e (λ l. absurd (omega (arith, size)))
 
--- the frame that the walk takes is the definition's
-pub round-seat : (n : ℕ) (trace : List ℕ) (t held next : ℕ) (words counts hints : List ℕ) → Tied Fifo n trace t held words counts hints → Round n t next (entriesAt Fifo n trace t)
-    → (f : ℕ) → f ≡ frameAfter n (getD trace t 0) (At (record { 0 = next })) (take held words) → f ≡ seatAt Fifo n trace t
-round-seat n trace t held next words counts hints x r f e =
-    e
-    ∙ seat-is Fifo n trace t held words counts hints x next
-    (λ full. next-chosen n t next (entriesAt Fifo n trace t) r (seesAt trace t) (omega (arith, size Fifo n trace t held words counts hints x)))
+-- in a full cache the walk knows which page goes
+pub round-knows : (n : ℕ) (trace : List ℕ) (t held next : ℕ) (words counts hints : List ℕ) → Tied Fifo n trace t held words counts hints → Round n t next (entriesAt Fifo n trace t)
+    → n ≤ held → next ≡ chosen Fifo (seesAt trace t) (entriesAt Fifo n trace t)
+round-knows n trace t held next words counts hints x r full =
+    next-chosen n t next (entriesAt Fifo n trace t) r (seesAt trace t) (omega (arith, size Fifo n trace t held words counts hints x))

@@ -44,12 +44,20 @@ fn walked(n: u32, trace: &[u32], words: &mut [u32]) -> u32
     while i < trace.len() {
         let page = Page(trace[i]);
         let goes = Frame(next as u32);
-        let frame = walks::frame_for(n as usize, page, goes, held, &pages, &counts, &hints);
-        let outcome = held::put(page, frame, held, &mut pages, &mut counts, &mut hints);
-        let fault = walks::told(outcome, i, words);
-        next = next_after(fault, next, n as usize);
-        held = walks::count_after(frame, held);
-        faults += fault;
+        let seat = walks::serve(
+            n as usize,
+            page,
+            goes,
+            i,
+            held,
+            &mut pages,
+            &mut counts,
+            &mut hints,
+            words,
+        );
+        next = next_after(seat.fault, next, n as usize);
+        held = seat.held;
+        faults += seat.fault;
         i += 1;
     }
     faults

@@ -7,21 +7,19 @@ use mathlib.Core.List.{List, []}
 use Prim.Native.Nat.{ℕ, _+_, _≤_, _<_}
 use native.Mathlib.Omega.{arith}
 use native.Mathlib.Decide.{ℕ-discrete}
-use lib.ListN.{length, getD, set, take, replicate, length-set, length-replicate, getD-replicate}
+use lib.ListN.{length, getD, set, replicate, length-set, length-replicate, getD-replicate}
 use lib.Seq.{getD-set-same, getD-set-other}
 use Rattle.paging.specs.Rules.{Sees, lruDrops, drops, chosen}
 use Rattle.paging.specs.Walk.{entryAt, seesAt, entriesAt}
-use Rattle.paging.specs.Held.{frameAfter}
 use Rattle.paging.specs.Calls.{frameLimit, requestLimit}
 use Rattle.paging.specs.declared.Entry.{Entry}
-use Rattle.paging.specs.declared.Found.the-variants.{At}
 use Rattle.paging.specs.declared.Rule.the-variants.{Lru}
 use Rattle.paging.specs.declared.Outcome.{Outcome}
 use Rattle.paging.proofs.Choice.{least-index}
 use Rattle.walks.specs.Hands.{Stopped}
-use Rattle.walks.specs.Tied.{seatAt, Tied}
+use Rattle.walks.specs.Tied.{Tied}
 use Rattle.walks.proofs.Hands.{Hand, hand-moves, hand-stops, hand-least, hand-served, below-served}
-use Rattle.walks.proofs.Walking.{Served, seat-is, size}
+use Rattle.walks.proofs.Walking.{Served, size}
 
 -- just before moment t: each frame's last moment, and the frame of each moment served
 pub record Lasts (t hand : ℕ) (es : List Entry) (last served : List ℕ) : Type 0 where
@@ -102,12 +100,9 @@ lasts-step t hand es last served x early p o f es' s small =
     now : entryAt es' f .last .0 ≡ t
     now = ⊎-elim (λ w. ap (λ (d : Entry). d .last .0) (w .2)) (λ w. ap (λ (d : Entry). d .last .0) (w .1)) (s .own)
 
--- the frame that the walk takes is the definition's
-pub lasts-seat : (n : ℕ) (trace : List ℕ) (t held hand : ℕ) (words counts hints last served : List ℕ)
-    → Tied Lru n trace t held words counts hints → Lasts t hand (entriesAt Lru n trace t) last served → 1 ≤ n
-    → (at : ℕ) → Stopped hand t at last last served
-    → (f : ℕ) → f ≡ frameAfter n (getD trace t 0) (At (record { 0 = getD served at 0 })) (take held words) → f ≡ seatAt Lru n trace t
-lasts-seat n trace t held hand words counts hints last served x l some at s f e =
-    e
-    ∙ seat-is Lru n trace t held words counts hints x (getD served at 0)
-    (λ full. hand-chosen t hand (entriesAt Lru n trace t) last served l at s (seesAt trace t) (omega (arith, size Lru n trace t held words counts hints x)))
+-- in a full cache the walk knows which page goes
+pub lasts-know : (n : ℕ) (trace : List ℕ) (t held hand : ℕ) (words counts hints last served : List ℕ)
+    → Tied Lru n trace t held words counts hints → Lasts t hand (entriesAt Lru n trace t) last served → 1 ≤ n → (at : ℕ) → Stopped hand t at last last served
+    → n ≤ held → getD served at 0 ≡ chosen Lru (seesAt trace t) (entriesAt Lru n trace t)
+lasts-know n trace t held hand words counts hints last served x l some at s full =
+    hand-chosen t hand (entriesAt Lru n trace t) last served l at s (seesAt trace t) (omega (arith, size Lru n trace t held words counts hints x))

@@ -32,12 +32,21 @@ fn walked(n: u32, trace: &[u32], words: &mut [u32]) -> u32
         let page = Page(trace[i]);
         hand = walks::onward(hand, i, &served, &last, &last);
         let goes = Frame(served[hand] as u32);
-        let frame = walks::frame_for(n as usize, page, goes, held, &pages, &counts, &hints);
-        let outcome = held::put(page, frame, held, &mut pages, &mut counts, &mut hints);
-        last[frame.0 as usize] = i as u16;
-        served[i] = frame.0 as u8;
-        faults += walks::told(outcome, i, words);
-        held = walks::count_after(frame, held);
+        let seat = walks::serve(
+            n as usize,
+            page,
+            goes,
+            i,
+            held,
+            &mut pages,
+            &mut counts,
+            &mut hints,
+            words,
+        );
+        last[seat.frame.0 as usize] = i as u16;
+        served[i] = seat.frame.0 as u8;
+        held = seat.held;
+        faults += seat.fault;
         i += 1;
     }
     faults

@@ -10,25 +10,23 @@ use Prim.Native.Nat.{ℕ, _+_, _≤_, _<_}
 use native.Mathlib.Omega.{arith}
 use native.Mathlib.Decide.{ℕ-discrete, decLt}
 use lib.Dec.{leb}
-use lib.ListN.{length, getD, set, take, replicate, length-set, length-replicate, getD-replicate}
+use lib.ListN.{length, getD, set, replicate, length-set, length-replicate, getD-replicate}
 use lib.Seq.{getD-set-same, getD-set-other}
 use borrow.Author.Tests.{lt-ltb, le-ltb, eq-eqb, ne-eqb}
 use Rattle.paging.specs.Lists.{pick, both, implies, any, all, indexOf}
 use Rattle.paging.specs.Rules.{mark, Sees, once, lru2Drops, drops, chosen}
 use Rattle.paging.specs.Walk.{zeroEntry, entryAt, loadedAt, renewed, faultOf, seesAt, entriesAt}
-use Rattle.paging.specs.Held.{frameAfter}
 use Rattle.paging.specs.Calls.{frameLimit, requestLimit}
 use Rattle.paging.specs.declared.Entry.{Entry}
-use Rattle.paging.specs.declared.Found.the-variants.{At}
 use Rattle.paging.specs.declared.Rule.the-variants.{Lru2}
 use Rattle.paging.specs.declared.Outcome.{Outcome}
 use Rattle.paging.specs.declared.Outcome.the-variants.{Hit}
 use Rattle.paging.proofs.Lists.{true≢false, bool-cases, at-any, at-none, index-same}
 use Rattle.paging.proofs.Choice.{least-index}
 use Rattle.walks.specs.Hands.{Stopped}
-use Rattle.walks.specs.Tied.{seatAt, Tied}
+use Rattle.walks.specs.Tied.{Tied}
 use Rattle.walks.proofs.Hands.{Hand, hand-moves, hand-stops, hand-least, hand-served, below-served}
-use Rattle.walks.proofs.Walking.{Served, seat-is, size}
+use Rattle.walks.proofs.Walking.{Served, size}
 use Rattle.lru2.specs.Devices.{handOf, earlierFor}
 
 -- just before moment t: each frame's last moment and the one before it, which is the last again for a page requested once; the frame of each moment served
@@ -251,12 +249,11 @@ module _
             (omega (arith, x .over-earlier .onward))
             (ap (λ (d : Entry). d .last .0) is)
 
--- the frame that the walk takes is the definition's
-pub twice-seat : (n : ℕ) (trace : List ℕ) (t held first second : ℕ) (words counts hints last earlier served : List ℕ)
+-- in a full cache the walk knows which page goes
+pub twice-knows : (n : ℕ) (trace : List ℕ) (t held first second : ℕ) (words counts hints last earlier served : List ℕ)
     → Tied Lru2 n trace t held words counts hints → Twice t first second (entriesAt Lru2 n trace t) last earlier served → 1 ≤ n
     → (at : ℕ) → Stopped first t at last earlier served → (at₂ : ℕ) → Stopped second t at₂ earlier earlier served → (hand : ℕ) → hand ≡ handOf at at₂ t
-    → (f : ℕ) → f ≡ frameAfter n (getD trace t 0) (At (record { 0 = getD served hand 0 })) (take held words) → f ≡ seatAt Lru2 n trace t
-twice-seat n trace t held first second words counts hints last earlier served x w some at s at₂ s₂ hand is f e =
-    e
-    ∙ seat-is Lru2 n trace t held words counts hints x (getD served hand 0)
-    (λ full. hand-chosen t first second (entriesAt Lru2 n trace t) last earlier served w at s at₂ s₂ hand is (seesAt trace t) (omega (arith, size Lru2 n trace t held words counts hints x)))
+    → n ≤ held → getD served hand 0 ≡ chosen Lru2 (seesAt trace t) (entriesAt Lru2 n trace t)
+twice-knows n trace t held first second words counts hints last earlier served x w some at s at₂ s₂ hand is full =
+    hand-chosen t first second (entriesAt Lru2 n trace t) last earlier served w at s at₂ s₂ hand is (seesAt trace t)
+    (omega (arith, size Lru2 n trace t held words counts hints x))

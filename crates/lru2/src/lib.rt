@@ -58,15 +58,23 @@ fn walked(n: u32, trace: &[u32], words: &mut [u32]) -> u32
         first = walks::onward(first, i, &served, &last, &earlier);
         second = walks::onward(second, i, &served, &earlier, &earlier);
         let goes = Frame(served[hand_of(first, second, i)] as u32);
-        let frame = walks::frame_for(n as usize, page, goes, held, &pages, &counts, &hints);
-        let outcome = held::put(page, frame, held, &mut pages, &mut counts, &mut hints);
-        let fault = walks::told(outcome, i, words);
-        let at = frame.0 as usize;
-        earlier[at] = earlier_for(fault, last[at], i as u16);
+        let seat = walks::serve(
+            n as usize,
+            page,
+            goes,
+            i,
+            held,
+            &mut pages,
+            &mut counts,
+            &mut hints,
+            words,
+        );
+        let at = seat.frame.0 as usize;
+        earlier[at] = earlier_for(seat.fault, last[at], i as u16);
         last[at] = i as u16;
         served[i] = at as u8;
-        held = walks::count_after(frame, held);
-        faults += fault;
+        held = seat.held;
+        faults += seat.fault;
         i += 1;
     }
     faults

@@ -30,11 +30,11 @@ use Rattle.paging.proofs.Lists.{length-snoc, getD-snoc-old}
 use Rattle.paging.proofs.Choice.{chosen-below}
 use Rattle.paging.proofs.Held.{found-there, found-nowhere}
 use Rattle.paging.proofs.Frames.{pages-length, pages-at, mem-pages, held-frame, Ways, ways, outcome-hit, outcome-room, outcome-full, next-hit, next-room, next-full, pages-after, held-at-most, outcomeAt}
-use Rattle.paging.proofs.Writing.{Running, running-starts, running-steps, running-ends}
+use Rattle.paging.proofs.Writing.{fault-most, Running, running-starts, running-steps, running-ends}
 use Rattle.held.specs.Index.{hashes, Indexed}
 use Rattle.held.specs.Placing.{putOutcome, putPages, putCount}
 use Rattle.held.proofs.Keeping.{held-length, index-starts}
-use Rattle.held.proofs.Placing.{Going, put-fits, put-after, put-told}
+use Rattle.held.proofs.Placing.{Going, put-fits, put-small, put-after, put-told}
 use Rattle.walks.specs.Tied.{seatAt, Tied}
 
 -- ---- the frame for a page, in its three ways
@@ -51,6 +51,23 @@ module _ (n p : ℕ) (goes : Frame) (held : ℕ) (words counts hints : List ℕ)
   pub takes-other : found p (take held words) ≡ Absent → n ≤ held → goes .0 ≡ frameAfter n p (At goes) (take held words)
   unfolding frameAfter
   takes-other e h = rw (e, held-length held words counts hints x, le-ltb held n h) refl
+
+-- a page that goes in a full cache stands in a frame in use: what `put` asks for
+pub takes-fit : (n p : ℕ) (goes : Frame) (held : ℕ) (words counts hints : List ℕ) → (x : Indexed held words counts hints) → n ≤ frameLimit → (n ≤ held → goes .0 < held)
+    → (frame : Frame) → frame .0 ≡ frameAfter n p (At goes) (take held words)
+    → (frame .0 ≤ held) × (frame .0 < frameLimit) × ((found p (take held words) ≡ At frame) ⊎ (found p (take held words) ≡ Absent))
+takes-fit n p goes held words counts hints x small there frame is =
+    let fits = put-fits p frame held words counts hints x n (At goes) going is in
+    (fits .0, put-small p frame held words counts hints x n (At goes) going is small, fits .1)
+  where
+    going : Going n p (At goes) (take held words)
+    going out full =
+        let l : length (take held words) ≡ held = held-length held words counts hints x in
+        (goes .0, refl, omega (arith, there (omega arith)))
+
+-- a page put into a frame faults at most once
+pub put-most : (p f : ℕ) (held : List ℕ) (fault : ℕ) → fault ≡ faultOf (putOutcome p f held) → fault ≤ 1
+put-most p f held fault e = rw e (fault-most (putOutcome p f held))
 
 -- ---- what a request does to each entry
 
@@ -134,6 +151,10 @@ module _ (rule : Rule) (n : ℕ) (trace : List ℕ) (t held : ℕ) (words counts
       go (At f) b e = refl
       go Absent true e = refl
       go Absent false e = knows (omega (arith, ltb-false (length (pages es)) n e, pages-length es, size))
+
+  -- and then it is in use
+  pub goes-in : 1 ≤ n → (goes : ℕ) → (n ≤ held → goes ≡ choice) → n ≤ held → goes < held
+  goes-in some goes knows full = omega (arith, knows full, size, chosen-below rule (seesAt trace t) es (omega (arith, size)))
 
   module _ (some : 1 ≤ n) (frame : Frame) (is : frame .0 ≡ seatAt rule n trace t) where
     abbrev f : ℕ

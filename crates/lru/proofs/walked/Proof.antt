@@ -1,16 +1,15 @@
 -- `lru::walked` meets its contract. The loop's invariant: the walk so far (`Walk`), and the hand with what it goes by (`Lasts`).
 -- Assumes nothing.
-use mathlib.Core.Path.{_≡_, sym}
-use Prim.Native.Nat.{_-_, _<_}
+use mathlib.Core.Path.{_≡_, refl, sym, _∙_}
+use Prim.Native.Nat.{_-_, _≤_, _<_}
 use native.Mathlib.Omega.{arith}
 use borrow.Author.Needs.{needs}
 use lib.ListN.{length}
 use Rattle.paging.specs.Walk.{entriesAt}
 use Rattle.paging.specs.declared.Rule.the-variants.{Lru}
-use Rattle.paging.proofs.Writing.{fault-most}
 use Rattle.walks.specs.Tied.{seatAt}
-use Rattle.walks.proofs.Walking.{Walk, walk-starts, walk-steps, walk-few, walk-ends, seat-fits, seat-low, seat-serves}
-use Rattle.lru.proofs.Lasts.{Lasts, lasts-start, lasts-move, lasts-seat, lasts-step}
+use Rattle.walks.proofs.Walking.{Walk, walk-starts, walk-steps, walk-few, walk-ends, put-most, few, seat-is, goes-in, seat-low, seat-serves}
+use Rattle.lru.proofs.Lasts.{Lasts, lasts-start, lasts-move, lasts-know, lasts-step}
 use Rattle.lru.proofs.walked.Statement.{statement}
 use Rattle.lru.proofs.walked.Tie as tie
 
@@ -21,44 +20,44 @@ Inv-loop n trace words₀ pages₀ counts₀ hints₀ last₀ served₀ held₀ 
 abbrev μ-loop : tie.MeasureT-loop
 μ-loop n trace words₀ pages₀ counts₀ hints₀ last₀ served₀ held₀ hand₀ faults₀ i₀ words pages counts hints last served held hand faults i = length trace - i
 
--- what came before a request's parts: the loop's state, the call, the hand, the frame for the page, the page put there
+-- what came before a request's parts: the loop's state, the call, the hand
 abbrev loop-of : tie.After-onward Inv-loop μ-loop → tie.At-loop Inv-loop μ-loop
 loop-of h = h .before .before .before .before .before .before
 
 abbrev call-of : tie.At-loop Inv-loop μ-loop → tie.Start Inv-loop μ-loop
 call-of l = l .before .before .before
 
-abbrev hand-of : tie.After-frame-for Inv-loop μ-loop → tie.After-onward Inv-loop μ-loop
-hand-of a = a .before .before .before .before
+abbrev hand-of : tie.After-serve Inv-loop μ-loop → tie.After-onward Inv-loop μ-loop
+hand-of a = a .before .before .before .before .before
 
-abbrev frame-of : tie.After-put Inv-loop μ-loop → tie.After-frame-for Inv-loop μ-loop
-frame-of put = put .before .before .before .before
+-- the request is one of the trace
+abbrev more : (h : tie.After-onward Inv-loop μ-loop) → loop-of h .loop .i < length (call-of (loop-of h) .args .trace .now)
+more h = h .before .before .before .before .before .loop-test .taken
 
-abbrev put-of : tie.After-told Inv-loop μ-loop → tie.After-put Inv-loop μ-loop
-put-of told = told .before .before .before .before .before .before .before
+early : (h : tie.After-onward Inv-loop μ-loop) → loop-of h .loop .i < 8000
+early h = omega (arith, more h, call-of (loop-of h) .pre .2)
 
 -- the frame is the definition's, and one of the n
-seat : (a : tie.After-frame-for Inv-loop μ-loop)
-    → a .frame-for .result .0 ≡ seatAt Lru (call-of (loop-of (hand-of a)) .args .n) (call-of (loop-of (hand-of a)) .args .trace .now) (loop-of (hand-of a) .loop .i)
+seat : (a : tie.After-serve Inv-loop μ-loop)
+    → a .serve .result .frame .0 ≡ seatAt Lru (call-of (loop-of (hand-of a)) .args .n) (call-of (loop-of (hand-of a)) .args .trace .now) (loop-of (hand-of a) .loop .i)
 seat a =
     let h = hand-of a in
-    let l = loop-of h in
-    lasts-seat _ _ _ _ _ _ _ _ _ _ (l .loop .inv .0 .tied) (l .loop .inv .1) (call-of l .pre .0) _ (h .onward .ensures) _ (a .frame-for .ensures)
+    let l = loop-of (h) in
+    a .serve .ensures .0 ∙ seat-is Lru _ _ _ _ _ _ _ (l .loop .inv .0 .tied) _ (lasts-know _ _ _ _ _ _ _ _ _ _ (l .loop .inv .0 .tied) (l .loop .inv .1) (call-of l .pre .0) _ (h .onward .ensures))
 
-low : (a : tie.After-frame-for Inv-loop μ-loop) → a .frame-for .result .0 < 256
+low : (a : tie.After-serve Inv-loop μ-loop) → a .serve .result .frame .0 < 256
 low a =
-    let l = loop-of (hand-of a) in
-    omega (arith, seat-low _ _ _ _ _ _ _ _ (l .loop .inv .0 .tied) (call-of l .pre .0) _ (seat a), call-of l .pre .1)
+    let l = loop-of (hand-of a) in omega (arith, seat-low _ _ _ _ _ _ _ _ (l .loop .inv .0 .tied) (call-of l .pre .0) _ (seat a), call-of l .pre .1)
 
 loop-holds : tie.Need-loop-holds Inv-loop μ-loop
 unfolding entriesAt
 loop-holds c = let s = c .before .before in (walk-starts Lru (s .args .n) (s .args .trace .now) (s .args .words .now), lasts-start)
 
-mul-faults : tie.Need-mul-faults Inv-loop μ-loop
-mul-faults c = search needs
+mul-t16 : tie.Need-mul-t16 Inv-loop μ-loop
+mul-t16 c = search needs
 
-shared-slice-read-faults : tie.Need-shared-slice-read-faults Inv-loop μ-loop
-shared-slice-read-faults c = search needs
+shared-slice-read-t19 : tie.Need-shared-slice-read-t19 Inv-loop μ-loop
+shared-slice-read-t19 c = search needs
 
 slice-aggregate-onward : tie.Need-slice-aggregate-onward Inv-loop μ-loop
 slice-aggregate-onward c = sym (c .before .before .before .loop .inv .1 .moments)
@@ -75,102 +74,70 @@ onward-requires c κs =
     let x = l .loop .inv .1 in
     (x .over .onward, omega (arith, x .moments, l .loop .inv .0 .running .passed, call-of l .pre .2), x .frames, x .frames)
 
-array-read-faults : tie.Need-array-read-faults Inv-loop μ-loop
-array-read-faults c =
-    let l = loop-of c in
-    let more = c .before .before .before .before .before .loop-test .taken in
-    omega (arith, c .onward .ensures .inside, l .loop .inv .1 .moments, more, call-of l .pre .2)
+array-read-t28 : tie.Need-array-read-t28 Inv-loop μ-loop
+array-read-t28 c = omega (arith, c .onward .ensures .inside, early c, loop-of c .loop .inv .1 .moments)
 
-cast-faults : tie.Need-cast-faults Inv-loop μ-loop
-cast-faults c =
-    let l = loop-of c in
-    let more = c .before .before .before .before .before .loop-test .taken in
-    omega (arith, l .loop .inv .1 .bytes (c .onward .result) (omega (arith, c .onward .ensures .inside, more, call-of l .pre .2)))
+cast-t19 : tie.Need-cast-t19 Inv-loop μ-loop
+cast-t19 c =
+    let k : c .onward .result < 8000 = omega (arith, c .onward .ensures .inside, early c) in omega (arith, loop-of c .loop .inv .1 .bytes (c .onward .result) k)
 
-slice-aggregate-frame-for : tie.Need-slice-aggregate-frame-for Inv-loop μ-loop
-slice-aggregate-frame-for c = sym (loop-of (c .before) .loop .inv .0 .tied .index .room)
+slice-aggregate-serve : tie.Need-slice-aggregate-serve Inv-loop μ-loop
+slice-aggregate-serve c = sym (loop-of (c .before) .loop .inv .0 .tied .index .room)
 
-slice-aggregate-frame-for-2 : tie.Need-slice-aggregate-frame-for-2 Inv-loop μ-loop
-slice-aggregate-frame-for-2 c = sym (loop-of (c .before .before) .loop .inv .0 .tied .index .buckets)
+slice-aggregate-serve-2 : tie.Need-slice-aggregate-serve-2 Inv-loop μ-loop
+slice-aggregate-serve-2 c = sym (loop-of (c .before .before) .loop .inv .0 .tied .index .buckets)
 
-slice-aggregate-frame-for-3 : tie.Need-slice-aggregate-frame-for-3 Inv-loop μ-loop
-slice-aggregate-frame-for-3 c = sym (loop-of (c .before .before .before) .loop .inv .0 .tied .index .guesses)
+slice-aggregate-serve-3 : tie.Need-slice-aggregate-serve-3 Inv-loop μ-loop
+slice-aggregate-serve-3 c = sym (loop-of (c .before .before .before) .loop .inv .0 .tied .index .guesses)
 
-frame-for-requires : tie.Need-frame-for-requires Inv-loop μ-loop
-frame-for-requires c κs = loop-of (c .before .before .before) .loop .inv .0 .tied .index
-
-slice-aggregate-put : tie.Need-slice-aggregate-put Inv-loop μ-loop
-slice-aggregate-put c = sym (loop-of (hand-of (c .before)) .loop .inv .0 .tied .index .room)
-
-slice-aggregate-put-2 : tie.Need-slice-aggregate-put-2 Inv-loop μ-loop
-slice-aggregate-put-2 c = sym (loop-of (hand-of (c .before .before)) .loop .inv .0 .tied .index .buckets)
-
-slice-aggregate-put-3 : tie.Need-slice-aggregate-put-3 Inv-loop μ-loop
-slice-aggregate-put-3 c = sym (loop-of (hand-of (c .before .before .before)) .loop .inv .0 .tied .index .guesses)
-
-put-requires : tie.Need-put-requires Inv-loop μ-loop
-put-requires c κs =
-    let a = c .before .before .before in
-    let l = loop-of (hand-of a) in
+serve-requires : tie.Need-serve-requires Inv-loop μ-loop
+serve-requires c κs =
+    let h = c .before .before .before .before in
+    let l = loop-of (h) in
+    let s = call-of l in
     let x = l .loop .inv .0 .tied in
-    let fits = seat-fits _ _ _ _ _ _ _ _ x (call-of l .pre .0) _ (seat a) in
-    (x .index, fits .0, low a, fits .1)
+    (x .index, few _ _ _ _ _ _ _ _ x, s .pre .1, goes-in Lru _ _ _ _ _ _ _ x (s .pre .0) _ (lasts-know _ _ _ _ _ _ _ _ _ _ (l .loop .inv .0 .tied) (l .loop .inv .1) (call-of l .pre .0) _ (h .onward .ensures)))
 
 cast-last : tie.Need-cast-last Inv-loop μ-loop
-cast-last c =
-    let l = loop-of (hand-of (frame-of (c .before .before .before))) in
-    omega (arith, l .loop .inv .0 .running .passed, call-of l .pre .2)
+cast-last c = omega (arith, early (hand-of (c .before .before .before .before .before)))
 
 cast-last-2 : tie.Need-cast-last-2 Inv-loop μ-loop
-cast-last-2 c = omega (arith, low (frame-of (c .before .before .before .before)))
+cast-last-2 c = omega (arith, low (c .before .before .before .before .before .before))
 
 mul-last : tie.Need-mul-last Inv-loop μ-loop
-mul-last c = omega (arith, low (frame-of (c .before .before .before .before)))
+mul-last c = omega (arith, low (c .before .before .before .before .before .before))
 
 array-write-last : tie.Need-array-write-last Inv-loop μ-loop
-array-write-last c =
-    let a = frame-of (c .before .before .before .before) in omega (arith, low a, loop-of (hand-of a) .loop .inv .1 .frames)
+array-write-last c = omega (arith, low (c .before .before .before .before .before .before), loop-of (hand-of (c .before .before .before .before .before .before)) .loop .inv .1 .frames)
 
 cast-served : tie.Need-cast-served Inv-loop μ-loop
-cast-served c = omega (arith, low (frame-of (c .before .before .before .before .before)))
+cast-served c = omega (arith, low (c .before .before .before .before .before .before .before))
 
 array-write-served : tie.Need-array-write-served Inv-loop μ-loop
-array-write-served c =
-    let h = hand-of (frame-of (c .before .before .before .before .before)) in
-    let more = h .before .before .before .before .before .loop-test .taken in
-    omega (arith, loop-of h .loop .inv .1 .moments, more, call-of (loop-of h) .pre .2)
-
-told-requires : tie.Need-told-requires Inv-loop μ-loop
-told-requires c κs = search needs
+array-write-served c = let h = hand-of (c .before .before .before .before .before .before .before) in omega (arith, early h, loop-of h .loop .inv .1 .moments)
 
 add-faults : tie.Need-add-faults Inv-loop μ-loop
 add-faults c =
-    let told = c .before .before in
-    let put = put-of told in
-    let l = loop-of (hand-of (frame-of put)) in
-    omega (arith, told .told .ensures .0, fault-most (put .put .result), walk-few _ _ _ _ _ _ _ _ _ _ _ (l .loop .inv .0), l .loop .inv .0 .running .passed, call-of l .pre .2)
-
-count-after-requires : tie.Need-count-after-requires Inv-loop μ-loop
-count-after-requires c κs = loop-of (hand-of (frame-of (put-of (c .before .before)))) .loop .inv .0 .tied .index .few
+    let a = c .before .before .before .before .before .before .before .before in
+    let h = hand-of a in
+    omega (arith, put-most _ _ _ _ (a .serve .ensures .1 .1 .0), walk-few _ _ _ _ _ _ _ _ _ _ _ (loop-of h .loop .inv .0), early h)
 
 add-i : tie.Need-add-i Inv-loop μ-loop
-add-i c = let l = loop-of (hand-of (frame-of (put-of (c .before .before .before)))) in omega (arith, l .loop .inv .0 .running .passed, call-of l .pre .2)
+add-i c = omega (arith, early (hand-of (c .before .before .before .before .before .before .before .before)))
 
 loop-less : tie.Need-loop-less Inv-loop μ-loop
-loop-less c = search needs
+loop-less c = omega (arith, more (hand-of (c .before .before .before .before .before .before .before .before)))
 
 loop-again : tie.Need-loop-again Inv-loop μ-loop
 loop-again c =
-    let told = c .before .before .before in
-    let put = put-of told in
-    let a = frame-of put in
+    let a = c .before .before .before .before .before .before .before .before in
     let h = hand-of a in
-    let l = loop-of h in
+    let l = loop-of (h) in
     let s = call-of l in
     let w = l .loop .inv .0 in
-    let more = h .before .before .before .before .before .loop-test .taken in (
-      walk-steps Lru _ _ _ _ _ _ _ _ _ _ w (s .pre .0) more _ (seat a) _ (put .put .ensures .0) _ _ _ (put .put .ensures .1 .0) (put .put .ensures .1 .1) _ (told .told .ensures .1) _ (told .told .ensures .0) _ (c .count-after .ensures),
-      lasts-step _ _ _ _ _ (lasts-move _ _ _ _ _ (l .loop .inv .1) _ (h .onward .ensures)) (omega (arith, more, s .pre .2)) _ _ _ _ (seat-serves Lru _ _ _ _ _ _ _ (w .tied) (s .pre .0) _ (seat a)) (low a),
+    let e = a .serve .ensures in (
+      walk-steps Lru _ _ _ _ _ _ _ _ _ _ w (s .pre .0) (more (h)) _ (seat a) _ refl _ _ _ (e .1 .1 .1 .0) (e .1 .1 .1 .1 .0) _ (e .1 .1 .1 .1 .1) _ (e .1 .1 .0) _ (e .1 .0),
+      lasts-step _ _ _ _ _ (lasts-move _ _ _ _ _ (l .loop .inv .1) _ (h .onward .ensures)) (early h) _ _ _ _ (seat-serves Lru _ _ _ _ _ _ _ (w .tied) (s .pre .0) _ (seat a)) (low a),
     )
 
 same-length : tie.Need-same-length Inv-loop μ-loop
@@ -186,31 +153,25 @@ walked-spec =
     Inv-loop
     μ-loop
     loop-holds
-    mul-faults
-    shared-slice-read-faults
+    mul-t16
+    shared-slice-read-t19
     slice-aggregate-onward
     slice-aggregate-onward-2
     slice-aggregate-onward-3
     onward-requires
-    array-read-faults
-    cast-faults
-    slice-aggregate-frame-for
-    slice-aggregate-frame-for-2
-    slice-aggregate-frame-for-3
-    frame-for-requires
-    slice-aggregate-put
-    slice-aggregate-put-2
-    slice-aggregate-put-3
-    put-requires
+    array-read-t28
+    cast-t19
+    slice-aggregate-serve
+    slice-aggregate-serve-2
+    slice-aggregate-serve-3
+    serve-requires
     cast-last
     cast-last-2
     mul-last
     array-write-last
     cast-served
     array-write-served
-    told-requires
     add-faults
-    count-after-requires
     add-i
     loop-less
     loop-again

@@ -1,16 +1,15 @@
 -- `lru2::walked` meets its contract. The loop's invariant: the walk so far (`Walk`), and the two hands with what they go by (`Twice`).
 -- Assumes nothing.
-use mathlib.Core.Path.{_≡_, sym, ap, _∙_}
+use mathlib.Core.Path.{_≡_, refl, sym, ap, _∙_}
 use Prim.Native.Nat.{_-_, _≤_, _<_}
 use native.Mathlib.Omega.{arith}
 use borrow.Author.Needs.{needs}
 use lib.ListN.{length}
 use Rattle.paging.specs.Walk.{faultOf, entriesAt}
 use Rattle.paging.specs.declared.Rule.the-variants.{Lru2}
-use Rattle.paging.proofs.Writing.{fault-most}
 use Rattle.walks.specs.Tied.{seatAt}
-use Rattle.walks.proofs.Walking.{Walk, walk-starts, walk-told, walk-steps, walk-few, walk-ends, seat-fits, seat-low, seat-serves}
-use Rattle.lru2.proofs.Twice.{Twice, twice-starts, twice-moves, twice-seat, twice-steps, hand-inside}
+use Rattle.walks.proofs.Walking.{Walk, walk-starts, walk-told, walk-steps, walk-few, walk-ends, put-most, few, seat-is, goes-in, seat-low, seat-serves}
+use Rattle.lru2.proofs.Twice.{Twice, twice-starts, twice-moves, twice-knows, twice-steps, hand-inside}
 use Rattle.lru2.proofs.walked.Statement.{statement}
 use Rattle.lru2.proofs.walked.Tie as tie
 
@@ -21,7 +20,7 @@ Inv-loop n trace words₀ pages₀ counts₀ hints₀ last₀ earlier₀ served�
 abbrev μ-loop : tie.MeasureT-loop
 μ-loop n trace words₀ pages₀ counts₀ hints₀ last₀ earlier₀ served₀ held₀ first₀ second₀ faults₀ i₀ words pages counts hints last earlier served held first second faults i = length trace - i
 
--- what came before a request's parts: the loop's state, the call, the hands, the frame for the page, the page put there
+-- what came before a request's parts: the loop's state, the call, the hands
 abbrev loop-of : tie.After-onward Inv-loop μ-loop → tie.At-loop Inv-loop μ-loop
 loop-of h = h .before .before .before .before .before .before
 
@@ -31,14 +30,8 @@ call-of l = l .before .before .before
 abbrev first-of : tie.After-hand-of Inv-loop μ-loop → tie.After-onward Inv-loop μ-loop
 first-of h = h .before .before .before .before .before
 
-abbrev hand-of : tie.After-frame-for Inv-loop μ-loop → tie.After-hand-of Inv-loop μ-loop
-hand-of a = a .before .before .before .before
-
-abbrev frame-of : tie.After-put Inv-loop μ-loop → tie.After-frame-for Inv-loop μ-loop
-frame-of put = put .before .before .before .before
-
-abbrev put-of : tie.After-told Inv-loop μ-loop → tie.After-put Inv-loop μ-loop
-put-of told = told .before .before .before .before .before
+abbrev hand-of : tie.After-serve Inv-loop μ-loop → tie.After-hand-of Inv-loop μ-loop
+hand-of a = a .before .before .before .before .before
 
 -- the request is one of the trace
 abbrev more : (h : tie.After-onward Inv-loop μ-loop) → loop-of h .loop .i < length (call-of (loop-of h) .args .trace .now)
@@ -52,28 +45,26 @@ inside : (h : tie.After-hand-of Inv-loop μ-loop) → h .hand-of .result ≤ loo
 inside h = hand-inside _ _ _ (h .before .onward2 .ensures .inside) _ (h .hand-of .ensures)
 
 -- the frame is the definition's, and one of the n
-seat : (a : tie.After-frame-for Inv-loop μ-loop)
-    → a .frame-for .result .0
-    ≡ seatAt Lru2 (call-of (loop-of (first-of (hand-of a))) .args .n) (call-of (loop-of (first-of (hand-of a))) .args .trace .now) (loop-of (first-of (hand-of a)) .loop .i)
+seat : (a : tie.After-serve Inv-loop μ-loop)
+    → a .serve .result .frame .0 ≡ seatAt Lru2 (call-of (loop-of (first-of (hand-of a))) .args .n) (call-of (loop-of (first-of (hand-of a))) .args .trace .now) (loop-of (first-of (hand-of a)) .loop .i)
 seat a =
     let h = hand-of a in
     let l = loop-of (first-of h) in
-    twice-seat _ _ _ _ _ _ _ _ _ _ _ _ (l .loop .inv .0 .tied) (l .loop .inv .1) (call-of l .pre .0) _ (first-of h .onward .ensures) _ (h .before .onward2 .ensures) _ (h .hand-of .ensures) _ (a .frame-for .ensures)
+    a .serve .ensures .0 ∙ seat-is Lru2 _ _ _ _ _ _ _ (l .loop .inv .0 .tied) _ (twice-knows _ _ _ _ _ _ _ _ _ _ _ _ (l .loop .inv .0 .tied) (l .loop .inv .1) (call-of l .pre .0) _ (first-of h .onward .ensures) _ (h .before .onward2 .ensures) _ (h .hand-of .ensures))
 
-low : (a : tie.After-frame-for Inv-loop μ-loop) → a .frame-for .result .0 < 256
+low : (a : tie.After-serve Inv-loop μ-loop) → a .serve .result .frame .0 < 256
 low a =
-    let l = loop-of (first-of (hand-of a)) in
-    omega (arith, seat-low _ _ _ _ _ _ _ _ (l .loop .inv .0 .tied) (call-of l .pre .0) _ (seat a), call-of l .pre .1)
+    let l = loop-of (first-of (hand-of a)) in omega (arith, seat-low _ _ _ _ _ _ _ _ (l .loop .inv .0 .tied) (call-of l .pre .0) _ (seat a), call-of l .pre .1)
 
 loop-holds : tie.Need-loop-holds Inv-loop μ-loop
 unfolding entriesAt
 loop-holds c = let s = c .before .before in (walk-starts Lru2 (s .args .n) (s .args .trace .now) (s .args .words .now), twice-starts)
 
-mul-t21 : tie.Need-mul-t21 Inv-loop μ-loop
-mul-t21 c = search needs
+mul-t19 : tie.Need-mul-t19 Inv-loop μ-loop
+mul-t19 c = search needs
 
-shared-slice-read-t24 : tie.Need-shared-slice-read-t24 Inv-loop μ-loop
-shared-slice-read-t24 c = search needs
+shared-slice-read-t22 : tie.Need-shared-slice-read-t22 Inv-loop μ-loop
+shared-slice-read-t22 c = search needs
 
 slice-aggregate-onward : tie.Need-slice-aggregate-onward Inv-loop μ-loop
 slice-aggregate-onward c = sym (c .before .before .before .loop .inv .1 .moments)
@@ -108,112 +99,89 @@ onward-requires-2 c κs =
 hand-of-requires : tie.Need-hand-of-requires Inv-loop μ-loop
 hand-of-requires c κs = search needs
 
-array-read-t39 : tie.Need-array-read-t39 Inv-loop μ-loop
-array-read-t39 c = let h = first-of c in omega (arith, inside c, early h, loop-of h .loop .inv .1 .moments)
+array-read-t37 : tie.Need-array-read-t37 Inv-loop μ-loop
+array-read-t37 c = let h = first-of c in omega (arith, inside c, early h, loop-of h .loop .inv .1 .moments)
 
-cast-t24 : tie.Need-cast-t24 Inv-loop μ-loop
-cast-t24 c =
+cast-t22 : tie.Need-cast-t22 Inv-loop μ-loop
+cast-t22 c =
     let h = first-of c in
     let k : c .hand-of .result < 8000 = omega (arith, inside c, early h) in omega (arith, loop-of h .loop .inv .1 .bytes (c .hand-of .result) k)
 
-slice-aggregate-frame-for : tie.Need-slice-aggregate-frame-for Inv-loop μ-loop
-slice-aggregate-frame-for c = sym (loop-of (first-of (c .before)) .loop .inv .0 .tied .index .room)
+slice-aggregate-serve : tie.Need-slice-aggregate-serve Inv-loop μ-loop
+slice-aggregate-serve c = sym (loop-of (first-of (c .before)) .loop .inv .0 .tied .index .room)
 
-slice-aggregate-frame-for-2 : tie.Need-slice-aggregate-frame-for-2 Inv-loop μ-loop
-slice-aggregate-frame-for-2 c = sym (loop-of (first-of (c .before .before)) .loop .inv .0 .tied .index .buckets)
+slice-aggregate-serve-2 : tie.Need-slice-aggregate-serve-2 Inv-loop μ-loop
+slice-aggregate-serve-2 c = sym (loop-of (first-of (c .before .before)) .loop .inv .0 .tied .index .buckets)
 
-slice-aggregate-frame-for-3 : tie.Need-slice-aggregate-frame-for-3 Inv-loop μ-loop
-slice-aggregate-frame-for-3 c = sym (loop-of (first-of (c .before .before .before)) .loop .inv .0 .tied .index .guesses)
+slice-aggregate-serve-3 : tie.Need-slice-aggregate-serve-3 Inv-loop μ-loop
+slice-aggregate-serve-3 c = sym (loop-of (first-of (c .before .before .before)) .loop .inv .0 .tied .index .guesses)
 
-frame-for-requires : tie.Need-frame-for-requires Inv-loop μ-loop
-frame-for-requires c κs = loop-of (first-of (c .before .before .before)) .loop .inv .0 .tied .index
-
-slice-aggregate-put : tie.Need-slice-aggregate-put Inv-loop μ-loop
-slice-aggregate-put c = sym (loop-of (first-of (hand-of (c .before))) .loop .inv .0 .tied .index .room)
-
-slice-aggregate-put-2 : tie.Need-slice-aggregate-put-2 Inv-loop μ-loop
-slice-aggregate-put-2 c = sym (loop-of (first-of (hand-of (c .before .before))) .loop .inv .0 .tied .index .buckets)
-
-slice-aggregate-put-3 : tie.Need-slice-aggregate-put-3 Inv-loop μ-loop
-slice-aggregate-put-3 c = sym (loop-of (first-of (hand-of (c .before .before .before))) .loop .inv .0 .tied .index .guesses)
-
-put-requires : tie.Need-put-requires Inv-loop μ-loop
-put-requires c κs =
-    let a = c .before .before .before in
-    let l = loop-of (first-of (hand-of a)) in
+serve-requires : tie.Need-serve-requires Inv-loop μ-loop
+serve-requires c κs =
+    let h = c .before .before .before .before in
+    let l = loop-of (first-of h) in
+    let s = call-of l in
     let x = l .loop .inv .0 .tied in
-    let fits = seat-fits _ _ _ _ _ _ _ _ x (call-of l .pre .0) _ (seat a) in
-    (x .index, fits .0, low a, fits .1)
-
-told-requires : tie.Need-told-requires Inv-loop μ-loop
-told-requires c κs = search needs
+    (x .index, few _ _ _ _ _ _ _ _ x, s .pre .1, goes-in Lru2 _ _ _ _ _ _ _ x (s .pre .0) _ (twice-knows _ _ _ _ _ _ _ _ _ _ _ _ (l .loop .inv .0 .tied) (l .loop .inv .1) (call-of l .pre .0) _ (first-of h .onward .ensures) _ (h .before .onward2 .ensures) _ (h .hand-of .ensures)))
 
 cast-at : tie.Need-cast-at Inv-loop μ-loop
-cast-at c = omega (arith, low (frame-of (put-of (c .before .before .before))))
+cast-at c = omega (arith, low (c .before .before .before .before .before .before))
 
 mul-earlier-for : tie.Need-mul-earlier-for Inv-loop μ-loop
-mul-earlier-for c = omega (arith, low (frame-of (put-of (c .before .before .before))))
+mul-earlier-for c = omega (arith, low (c .before .before .before .before .before .before))
 
 array-read-earlier-for : tie.Need-array-read-earlier-for Inv-loop μ-loop
-array-read-earlier-for c = let a = frame-of (put-of (c .before .before .before)) in omega (arith, low a, loop-of (first-of (hand-of a)) .loop .inv .1 .frames)
+array-read-earlier-for c = omega (arith, low (c .before .before .before .before .before .before), loop-of (first-of (hand-of (c .before .before .before .before .before .before))) .loop .inv .1 .frames)
 
 cast-earlier-for : tie.Need-cast-earlier-for Inv-loop μ-loop
-cast-earlier-for c = omega (arith, early (first-of (hand-of (frame-of (put-of (c .before .before .before))))))
+cast-earlier-for c = omega (arith, early (first-of (hand-of (c .before .before .before .before .before .before))))
 
 earlier-for-requires : tie.Need-earlier-for-requires Inv-loop μ-loop
 earlier-for-requires c κs = search needs
 
 mul-earlier : tie.Need-mul-earlier Inv-loop μ-loop
-mul-earlier c = omega (arith, low (frame-of (put-of (c .before .before .before .before))))
+mul-earlier c = omega (arith, low (c .before .before .before .before .before .before .before))
 
 array-write-earlier : tie.Need-array-write-earlier Inv-loop μ-loop
-array-write-earlier c = let a = frame-of (put-of (c .before .before .before .before)) in omega (arith, low a, loop-of (first-of (hand-of a)) .loop .inv .1 .pasts)
+array-write-earlier c = omega (arith, low (c .before .before .before .before .before .before .before), loop-of (first-of (hand-of (c .before .before .before .before .before .before .before))) .loop .inv .1 .pasts)
 
 cast-last : tie.Need-cast-last Inv-loop μ-loop
-cast-last c = omega (arith, early (first-of (hand-of (frame-of (put-of (c .before .before .before .before))))))
+cast-last c = omega (arith, early (first-of (hand-of (c .before .before .before .before .before .before .before))))
 
 mul-last : tie.Need-mul-last Inv-loop μ-loop
-mul-last c = omega (arith, low (frame-of (put-of (c .before .before .before .before))))
+mul-last c = omega (arith, low (c .before .before .before .before .before .before .before))
 
 array-write-last : tie.Need-array-write-last Inv-loop μ-loop
-array-write-last c = let a = frame-of (put-of (c .before .before .before .before)) in omega (arith, low a, loop-of (first-of (hand-of a)) .loop .inv .1 .frames)
+array-write-last c = omega (arith, low (c .before .before .before .before .before .before .before), loop-of (first-of (hand-of (c .before .before .before .before .before .before .before))) .loop .inv .1 .frames)
 
 cast-served : tie.Need-cast-served Inv-loop μ-loop
-cast-served c = omega (arith, low (frame-of (put-of (c .before .before .before .before))))
+cast-served c = omega (arith, low (c .before .before .before .before .before .before .before))
 
 array-write-served : tie.Need-array-write-served Inv-loop μ-loop
-array-write-served c =
-    let h = first-of (hand-of (frame-of (put-of (c .before .before .before .before)))) in omega (arith, early h, loop-of h .loop .inv .1 .moments)
-
-count-after-requires : tie.Need-count-after-requires Inv-loop μ-loop
-count-after-requires c κs = loop-of (first-of (hand-of (frame-of (put-of (c .before .before .before .before))))) .loop .inv .0 .tied .index .few
+array-write-served c = let h = first-of (hand-of (c .before .before .before .before .before .before .before)) in omega (arith, early h, loop-of h .loop .inv .1 .moments)
 
 add-faults : tie.Need-add-faults Inv-loop μ-loop
 add-faults c =
-    let told = c .before .before .before .before .before in
-    let put = put-of told in
-    let h = first-of (hand-of (frame-of put)) in
-    omega (arith, told .told .ensures .0, fault-most (put .put .result), walk-few _ _ _ _ _ _ _ _ _ _ _ (loop-of h .loop .inv .0), early h)
+    let a = c .before .before .before .before .before .before .before .before in
+    let h = first-of (hand-of a) in
+    omega (arith, put-most _ _ _ _ (a .serve .ensures .1 .1 .0), walk-few _ _ _ _ _ _ _ _ _ _ _ (loop-of h .loop .inv .0), early h)
 
 add-i : tie.Need-add-i Inv-loop μ-loop
-add-i c = omega (arith, early (first-of (hand-of (frame-of (put-of (c .before .before .before .before .before))))))
+add-i c = omega (arith, early (first-of (hand-of (c .before .before .before .before .before .before .before .before))))
 
 loop-less : tie.Need-loop-less Inv-loop μ-loop
-loop-less c = omega (arith, more (first-of (hand-of (frame-of (put-of (c .before .before .before .before .before))))))
+loop-less c = omega (arith, more (first-of (hand-of (c .before .before .before .before .before .before .before .before))))
 
 loop-again : tie.Need-loop-again Inv-loop μ-loop
 loop-again c =
-    let told = c .before .before .before .before .before in
-    let put = put-of told in
-    let a = frame-of put in
+    let a = c .before .before .before .before .before .before .before .before in
     let h = hand-of a in
     let l = loop-of (first-of h) in
     let s = call-of l in
     let w = l .loop .inv .0 in
-    let hands = twice-moves _ _ _ _ _ _ _ (l .loop .inv .1) _ (first-of h .onward .ensures) _ (h .before .onward2 .ensures) in
-    let outcome = walk-told Lru2 _ _ _ _ _ _ _ _ _ _ w (s .pre .0) (more (first-of h)) _ (seat a) _ (put .put .ensures .0) in (
-      walk-steps Lru2 _ _ _ _ _ _ _ _ _ _ w (s .pre .0) (more (first-of h)) _ (seat a) _ (put .put .ensures .0) _ _ _ (put .put .ensures .1 .0) (put .put .ensures .1 .1) _ (told .told .ensures .1) _ (told .told .ensures .0) _ (c .count-after .ensures),
-      twice-steps _ _ _ _ _ _ _ hands (early (first-of h)) _ _ _ _ (seat-serves Lru2 _ _ _ _ _ _ _ (w .tied) (s .pre .0) _ (seat a)) (low a) _ (told .told .ensures .0 ∙ ap faultOf outcome) _ (c .before .earlier-for .ensures),
+    let e = a .serve .ensures in (
+      walk-steps Lru2 _ _ _ _ _ _ _ _ _ _ w (s .pre .0) (more (first-of h)) _ (seat a) _ refl _ _ _ (e .1 .1 .1 .0) (e .1 .1 .1 .1 .0) _ (e .1 .1 .1 .1 .1) _ (e .1 .1 .0) _ (e .1 .0),
+      twice-steps _ _ _ _ _ _ _ (twice-moves _ _ _ _ _ _ _ (l .loop .inv .1) _ (first-of h .onward .ensures) _ (h .before .onward2 .ensures)) (early (first-of h)) _ _ _ _ (seat-serves Lru2 _ _ _ _ _ _ _ (w .tied) (s .pre .0) _ (seat a)) (low a) _ (e .1 .1 .0 ∙ ap faultOf (walk-told Lru2 _ _ _ _ _ _ _ _ _ _ w (s .pre .0) (more (first-of h)) _ (seat a) _ refl)) _ (c .before .earlier-for .ensures),
     )
 
 same-length : tie.Need-same-length Inv-loop μ-loop
@@ -229,8 +197,8 @@ walked-spec =
     Inv-loop
     μ-loop
     loop-holds
-    mul-t21
-    shared-slice-read-t24
+    mul-t19
+    shared-slice-read-t22
     slice-aggregate-onward
     slice-aggregate-onward-2
     slice-aggregate-onward-3
@@ -240,17 +208,12 @@ walked-spec =
     slice-aggregate-onward-6
     onward-requires-2
     hand-of-requires
-    array-read-t39
-    cast-t24
-    slice-aggregate-frame-for
-    slice-aggregate-frame-for-2
-    slice-aggregate-frame-for-3
-    frame-for-requires
-    slice-aggregate-put
-    slice-aggregate-put-2
-    slice-aggregate-put-3
-    put-requires
-    told-requires
+    array-read-t37
+    cast-t22
+    slice-aggregate-serve
+    slice-aggregate-serve-2
+    slice-aggregate-serve-3
+    serve-requires
     cast-at
     mul-earlier-for
     array-read-earlier-for
@@ -263,7 +226,6 @@ walked-spec =
     array-write-last
     cast-served
     array-write-served
-    count-after-requires
     add-faults
     add-i
     loop-less
