@@ -1,37 +1,47 @@
--- `counts::run` meets its contract: MIN's own walk for rule 3, else the fed record.
+-- `counts::run` meets its contract: the number's rule first, then the rule's walk.
 -- Assumes nothing.
-use mathlib.Core.Path.{_∙_}
+use mathlib.Core.Path.{sym, _∙_}
 use borrow.Author.Needs.{needs}
-use Rattle.counts.proofs.Chains.{min-answer, fed-answer}
+use Rattle.counts.proofs.Chains.{unknown-answer, known-answer}
 use Rattle.counts.proofs.run.Statement.{statement}
 use Rattle.counts.proofs.run.Tie as tie
 
-run-requires : tie.Need-run-requires
-run-requires c κs = search needs
+numbered-requires : tie.Need-numbered-requires
+numbered-requires c κs = search needs
+
+enum-told : tie.Need-enum-told
+enum-told c = search needs
+
+enum-known-kind : tie.Need-enum-known-kind
+enum-known-kind c = search needs
+
+walk-requires : tie.Need-walk-requires
+walk-requires c κs = search needs
+
+returns : tie.Need-returns
+returns c =
+    let s = c .before .before .before .before .before in
+    unknown-answer _ _ _ (s .args .words .now) (sym (c .before .before .numbered .ensures) ∙ c .enum-told .given .1)
 
 same-length : tie.Need-same-length
 same-length c = search needs
 
-returns : tie.Need-returns
-returns c =
-    let r = c .before .before in
-    let s = r .before .before .before .before .before in
-    let e = min-answer (s .args .rule) (s .args .n) (s .args .trace .now) (s .args .words .now) (r .before .before .if1 .taken) in
-    (r .run .ensures .0 ∙ e .0, r .run .ensures .1 ∙ e .1)
-
-run-requires-2 : tie.Need-run-requires-2
-run-requires-2 c κs = search needs
-
-same-length-2 : tie.Need-same-length-2
-same-length-2 c = search needs
-
 returns-2 : tie.Need-returns-2
 returns-2 c =
-    let r = c .before .before in
-    let s = r .before .before .before .before .before in
-    let e = fed-answer (s .args .rule) (s .args .n) (s .args .trace .now) (s .args .words .now) (r .before .before .if1 .left) in
-    (r .run2 .ensures .0 ∙ e .0, r .run2 .ensures .1 ∙ e .1)
+    let w = c .before .before in
+    let told = w .before .before .before in
+    let s = told .before .before .before .before .before in
+    let e = known-answer _ _ _ (s .args .words .now) _ (sym (told .before .before .numbered .ensures) ∙ told .kind .given .1) in
+    (w .walk .ensures .0 ∙ e .0, w .walk .ensures .1 ∙ e .1)
 
 pub run-spec : {M : Type 1} → statement M
 run-spec =
-    tie.close (tie.spec run-requires same-length returns run-requires-2 same-length-2 returns-2)
+    tie.close
+    (tie.spec
+    numbered-requires
+    enum-told
+    enum-known-kind
+    walk-requires
+    returns
+    same-length
+    returns-2)

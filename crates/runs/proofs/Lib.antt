@@ -1,2 +1,0 @@
--- What the proofs of a whole trace use.
-pub mod Running

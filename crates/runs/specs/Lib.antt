@@ -1,2 +1,0 @@
--- What the contract of a whole trace cites.
-pub mod Tests
