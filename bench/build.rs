@@ -1,5 +1,6 @@
 //! Links the proved program's library, unless only the tuned program is run.
-//! HEDRAVOS_LIBRARY may give the archive's path; otherwise it is target/library/libhedravos.a, as tools/library makes it.
+//! HEDRAVOS_LIBRARY may give the archive's path; otherwise it is target/library/libhedravos.a, as tools/library makes it,
+//! and on an Arm machine, where that one's code would run under an emulator, target/bench/libhedravos.a, as bench/library makes it.
 
 use std::env;
 use std::path::PathBuf;
@@ -9,14 +10,16 @@ fn main() {
     if env::var_os("CARGO_FEATURE_BASELINE_ONLY").is_some() {
         return;
     }
-    if env::var("CARGO_CFG_TARGET_ARCH").unwrap() != "x86_64" {
-        panic!("the proved program is for x86-64, and under an emulator its time says nothing; use --features baseline-only here");
-    }
-    let archive = archive();
+    let (place, maker) = match env::var("CARGO_CFG_TARGET_ARCH").unwrap().as_str() {
+        "x86_64" => ("library", "tools/library"),
+        "aarch64" => ("bench", "bench/library"),
+        _ => panic!("there is no proved program for this machine; use --features baseline-only"),
+    };
+    let archive = archive(place);
     println!("cargo:rerun-if-changed={}", archive.display());
     if !archive.is_file() {
         panic!(
-            "{} isn't there; run tools/library, set HEDRAVOS_LIBRARY, or use --features baseline-only",
+            "{} isn't there; run {maker}, set HEDRAVOS_LIBRARY, or use --features baseline-only",
             archive.display()
         );
     }
@@ -27,10 +30,10 @@ fn main() {
     println!("cargo:rustc-link-lib=static={name}");
 }
 
-fn archive() -> PathBuf {
+fn archive(place: &str) -> PathBuf {
     if let Some(path) = env::var_os("HEDRAVOS_LIBRARY") {
         return PathBuf::from(path);
     }
     let here = PathBuf::from(env::var_os("CARGO_MANIFEST_DIR").unwrap());
-    here.join("../target/library/libhedravos.a")
+    here.join("../target").join(place).join("libhedravos.a")
 }
