@@ -2,7 +2,7 @@
 --
 -- In order: Feed where nothing is refused, and of a record that is not sound; one request; soundness; the page dropped; feeding a trace.
 -- Assumes nothing.
-use mathlib.Core.Path.{_≡_, refl, sym, ap, ap₂, _∙_, subst}
+use mathlib.Core.Path.{_≡_, refl, sym, ap, ap₂, _∙_}
 use mathlib.Core.Bool.{Bool, true, false}
 use mathlib.Core.List.{List, [], _∷_, map}
 use Prim.Native.Nat.{ℕ, suc, _+_, _-_, _≤_, _<_}
@@ -31,17 +31,16 @@ use Rattle.occupancy.proofs.Lowest.{map-ones, map-words}
 use Rattle.soundness.specs.Sound.{feedable, soundParts}
 use Rattle.soundness.proofs.Orderly.{drops-one}
 use Rattle.cache.specs.declared.Cache.{Cache}
-use Rattle.cache.specs.declared.Served.{Served}
 use Rattle.cache.specs.declared.Reply.{Reply}
 use Rattle.cache.specs.declared.Reply.the-variants.{Refused}
 use Rattle.cache.specs.declared.Fed.{Fed}
 use Rattle.cache.specs.Record.{emptyCache, heldOf, heldEntries, padded, ruleOf, Formed, freshOf}
 use Rattle.cache.specs.Sound.{sound, Sound}
 use Rattle.cache.specs.Feed.{served, replyOf, fed, feeding, fedPlan, fedFaults}
-use Rattle.cache.specs.Devices.Step.{stepOn, onward, outcomesFrom}
+use Rattle.cache.specs.Devices.Step.{outcomesFrom}
 use Rattle.cache.proofs.Soundness.{sound-is, is-sound, held-length, empty-formed, empty-held, empty-sound, fresh-in-order, fresh-empty}
 use Rattle.cache.proofs.Least.{not-min}
-use Rattle.cache.proofs.Step.{served-steps, served-sound}
+use Rattle.cache.proofs.Step.{served-sound}
 
 -- ---- where nothing is refused
 
@@ -136,13 +135,13 @@ outcomes-step c p ps formed s =
     (next-blind (ruleOf c) fed (between [] ps) noRequests es (c .frames) (c .clock) p ∙ sym (served-held c p formed s)))
 
 -- a record that can be fed these requests without a refusal
-pub record Fits (c : Cache) (ps : List ℕ) : Type 0 where
-  pub sound-now : Sound c
-  pub formed-now : Formed c
-  pub time-left : c .clock + length ps ≤ requestLimit
-  pub no-mark : marked ps ≡ false
+record Fits (c : Cache) (ps : List ℕ) : Type 0 where
+  sound-now : Sound c
+  formed-now : Formed c
+  time-left : c .clock + length ps ≤ requestLimit
+  no-mark : marked ps ≡ false
 
-pub fits-first : (c : Cache) (ps : List ℕ) → Formed c → (sound c ≡ true) → (c .clock + length ps ≤ requestLimit) → (marked ps ≡ false) → Fits c ps
+fits-first : (c : Cache) (ps : List ℕ) → Formed c → (sound c ≡ true) → (c .clock + length ps ≤ requestLimit) → (marked ps ≡ false) → Fits c ps
 fits-first c ps l s h m = record { sound-now = sound-is c s; formed-now = l; time-left = h; no-mark = m }
 
 fits-next : (c : Cache) (p : ℕ) (ps : List ℕ) → Fits c (p ∷ ps) → (p ≡ mark → ⊥) × Fits (served c p .next) ps
@@ -159,17 +158,6 @@ fits-next c p ps f =
   where
     later : (c : Cache) (p : ℕ) (ps : List ℕ) → c .clock + length (p ∷ ps) ≤ requestLimit → served c p .next .clock + length ps ≤ requestLimit
     later c p ps h = unfold served in omega arith
-
--- the same over the record's parts, for a loop that carries them
-module _ (c : Cache) (p : ℕ) (ps : List ℕ) (f : Fits c (p ∷ ps)) where
-  pub fits-on : Fits (onward c (stepOn c p)) ps
-  fits-on =
-      subst (λ (d : Cache). Fits d ps) (sym (ap (λ (a : Served). a .next) (served-steps c (f .formed-now) (f .sound-now) p))) (fits-next c p ps f .1)
-
-  pub outcomes-on : outcomesFrom c (p ∷ ps) ≡ stepOn c p .outcome ∷ outcomesFrom (onward c (stepOn c p)) ps
-  outcomes-on =
-      outcomes-step c p ps (f .formed-now) (f .sound-now)
-      ∙ sym (ap (λ (a : Served). a .outcome ∷ outcomesFrom (a .next) ps) (served-steps c (f .formed-now) (f .sound-now) p))
 
 -- the replies are the outcomes of the walk from its entries
 feeding-walks : (ps : List ℕ) (c : Cache) → Fits c ps → feeding c ps ≡ map replyOf (outcomesFrom c ps)

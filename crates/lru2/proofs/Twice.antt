@@ -12,7 +12,7 @@ use native.Mathlib.Decide.{ℕ-discrete, decLt}
 use lib.Dec.{leb}
 use lib.ListN.{length, getD, set, replicate, length-set, length-replicate, getD-replicate}
 use lib.Seq.{getD-set-same, getD-set-other}
-use borrow.Author.Tests.{lt-ltb, le-ltb, eq-eqb, ne-eqb}
+use borrow.Author.Tests.{lt-ltb, le-ltb, ne-eqb}
 use Rattle.paging.specs.Lists.{pick, both, implies, any, all, indexOf}
 use Rattle.paging.specs.Rules.{mark, Sees, once, lru2Drops, drops, chosen}
 use Rattle.paging.specs.Walk.{zeroEntry, entryAt, loadedAt, renewed, faultOf, seesAt, entriesAt}

@@ -2,8 +2,8 @@
 --
 -- In order: the frame for a page; what a request does to each entry; the frame that the walk takes is the definition's; its page put there; what that does to the definition's entries; the loop.
 -- Assumes nothing.
-use mathlib.Core.Path.{_≡_, refl, sym, ap, ap₂, _∙_}
-use mathlib.Core.Logic.{_⊎_, inl, inr, ⊎-elim}
+use mathlib.Core.Path.{_≡_, refl, sym, ap, _∙_}
+use mathlib.Core.Logic.{_⊎_, inl, inr}
 use mathlib.Core.Bool.{Bool, true, false}
 use mathlib.Core.List.{List, [], _∷_, _++_}
 use Prim.Native.Nat.{ℕ, suc, _+_, _≤_, _<_}
@@ -15,7 +15,7 @@ use lib.Seq.{getD-set-same, getD-set-other, getD-append-seam}
 use borrow.Author.Tests.{lt-ltb, le-ltb, ltb-false}
 use Rattle.paging.specs.Lists.{pick, placeOf}
 use Rattle.paging.specs.Rules.{chosen}
-use Rattle.paging.specs.Walk.{holds, zeroEntry, entryAt, pages, loadedAt, renewed, outcome, next, faultOf, wordOf, faults, plan, seesAt, entriesAt}
+use Rattle.paging.specs.Walk.{zeroEntry, entryAt, pages, loadedAt, renewed, outcome, next, faultOf, wordOf, faults, plan, seesAt, entriesAt}
 use Rattle.paging.specs.Calls.{frameLimit}
 use Rattle.paging.specs.Services.{laid}
 use Rattle.paging.specs.Held.{found, ifHeld, frameAfter, heldAfter}
@@ -25,7 +25,7 @@ use Rattle.paging.specs.declared.Found.the-variants.{At, Absent}
 use Rattle.paging.specs.declared.Frame.{Frame}
 use Rattle.paging.specs.declared.Rule.{Rule}
 use Rattle.paging.specs.declared.Outcome.{Outcome}
-use Rattle.paging.specs.declared.Outcome.the-variants.{Hit, Loaded, Dropped}
+use Rattle.paging.specs.declared.Outcome.the-variants.{Hit, Loaded}
 use Rattle.paging.proofs.Lists.{length-snoc, getD-snoc-old}
 use Rattle.paging.proofs.Choice.{chosen-below}
 use Rattle.paging.proofs.Held.{found-there, found-nowhere}

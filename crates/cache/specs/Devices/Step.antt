@@ -1,4 +1,4 @@
--- Devices of the request: the record that is written, and what a loop over requests comes to.
+-- Devices of the request: the record that is written, and what feeding requests comes to.
 -- Document 01's words are in Record, Sound and Feed; proofs/Step.antt ties these to them.
 -- Assumes nothing.
 use mathlib.Core.List.{List, []}

@@ -1,7 +1,7 @@
 -- `lru::walked` meets its contract. The loop's invariant: the walk so far (`Walk`), and the hand with what it goes by (`Lasts`).
 -- Assumes nothing.
 use mathlib.Core.Path.{_≡_, refl, sym, _∙_}
-use Prim.Native.Nat.{_-_, _≤_, _<_}
+use Prim.Native.Nat.{_-_, _<_}
 use native.Mathlib.Omega.{arith}
 use borrow.Author.Needs.{needs}
 use lib.ListN.{length}

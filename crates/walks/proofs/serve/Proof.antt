@@ -2,7 +2,7 @@
 -- Assumes nothing.
 use mathlib.Core.Path.{ap, _∙_}
 use borrow.Author.Needs.{needs}
-use lib.ListN.{length, set, length-set}
+use lib.ListN.{set}
 use Rattle.paging.specs.Walk.{faultOf, wordOf}
 use Rattle.paging.specs.declared.Outcome.{Outcome}
 use Rattle.walks.proofs.Walking.{takes-fit}
