@@ -71,7 +71,6 @@ pub fn told(outcome: Outcome, i: usize, words: &mut [u32]) -> u32
 
 // How many pages are held, once a page is put into the frame: one more, if it was free.
 pub fn count_after(frame: Frame, held: usize) -> usize
-    requires { ⌜ held ≤ frameLimit ⌝ }
     ensures { λ r. ⌜ r ≡ putCount (frame .0) held ⌝ }
 {
     if held <= frame.0 as usize {

@@ -30,7 +30,7 @@ put-requires c κs =
     (s .pre .0, fits .0, fits .1, fits .2)
 
 count-after-requires : tie.Need-count-after-requires
-count-after-requires c κs = call-of (frame-of (c .before .before .before .before .before .before)) .pre .0 .few
+count-after-requires c κs = search needs
 
 told-requires : tie.Need-told-requires
 told-requires c κs = search needs
