@@ -4,7 +4,7 @@ use mathlib.Core.Path.{_≡_, refl, sym, ap, _∙_}
 use mathlib.Core.Logic.{⊎-elim}
 use mathlib.Core.Bool.{true}
 use mathlib.Core.List.{List, []}
-use Prim.Native.Nat.{ℕ, _+_, _≤_, _<_}
+use Prim.Native.Nat.{ℕ, _+_, _-_, _≤_, _<_}
 use native.Mathlib.Omega.{arith}
 use native.Mathlib.Decide.{ℕ-discrete}
 use lib.ListN.{length, getD, set, replicate, length-set, length-replicate, getD-replicate}
@@ -16,9 +16,9 @@ use Rattle.paging.specs.declared.Entry.{Entry}
 use Rattle.paging.specs.declared.Rule.the-variants.{Lru}
 use Rattle.paging.specs.declared.Outcome.{Outcome}
 use Rattle.paging.proofs.Choice.{least-index}
-use Rattle.walks.specs.Hands.{Stopped}
+use Rattle.walks.specs.Hands.{stops, firstFrom}
 use Rattle.walks.specs.Tied.{Tied}
-use Rattle.walks.proofs.Hands.{Hand, hand-moves, hand-stops, hand-least, hand-served, below-served}
+use Rattle.walks.proofs.Hands.{Stopped, stopped, Hand, hand-moves, hand-stops, hand-least, hand-served, below-served}
 use Rattle.walks.proofs.Walking.{Served, size}
 
 -- just before moment t: each frame's last moment, and the frame of each moment served
@@ -40,6 +40,12 @@ lasts-start =
       used = λ k h. absurd (omega arith);
       over = record { onward = omega arith; past = λ f h. absurd (omega arith); by = λ f h. absurd (omega arith); behind = λ f h. absurd (omega arith) };
     }
+
+-- where the hand stops
+pub lasts-stop : (t hand : ℕ) (es : List Entry) (last served : List ℕ) → Lasts t hand es last served → t < requestLimit
+    → (at : ℕ) → at ≡ firstFrom (stops last last served) hand (t - hand) → Stopped hand t at last last served
+lasts-stop t hand es last served x early at e =
+    stopped hand t last last served frameLimit (x .over .onward) (omega (arith, x .moments)) (x .frames) (x .frames) (λ k h. x .bytes k (omega arith)) at e
 
 module _ (t hand : ℕ) (es : List Entry) (last served : List ℕ) (x : Lasts t hand es last served) (at : ℕ) (s : Stopped hand t at last last served) where
   -- the hand where it stops

@@ -6,7 +6,7 @@ use mathlib.Core.Path.{_≡_, refl, sym, ap, _∙_}
 use mathlib.Core.Logic.{_⊎_, ⊎-elim}
 use mathlib.Core.Bool.{Bool, true, false}
 use mathlib.Core.List.{List, []}
-use Prim.Native.Nat.{ℕ, _+_, _≤_, _<_}
+use Prim.Native.Nat.{ℕ, _+_, _-_, _≤_, _<_}
 use native.Mathlib.Omega.{arith}
 use native.Mathlib.Decide.{ℕ-discrete, decLt}
 use lib.Dec.{leb}
@@ -23,9 +23,9 @@ use Rattle.paging.specs.declared.Outcome.{Outcome}
 use Rattle.paging.specs.declared.Outcome.the-variants.{Hit}
 use Rattle.paging.proofs.Lists.{true≢false, bool-cases, at-any, at-none, index-same}
 use Rattle.paging.proofs.Choice.{least-index}
-use Rattle.walks.specs.Hands.{Stopped}
+use Rattle.walks.specs.Hands.{stops, firstFrom}
 use Rattle.walks.specs.Tied.{Tied}
-use Rattle.walks.proofs.Hands.{Hand, hand-moves, hand-stops, hand-least, hand-served, below-served}
+use Rattle.walks.proofs.Hands.{Stopped, stopped, Hand, hand-moves, hand-stops, hand-least, hand-served, below-served}
 use Rattle.walks.proofs.Walking.{Served, size}
 use Rattle.lru2.specs.Devices.{handOf, earlierFor}
 
@@ -56,6 +56,16 @@ twice-starts =
       over-last = record { onward = omega arith; past = λ f h. absurd (omega arith); by = λ f h. absurd (omega arith); behind = λ f h. absurd (omega arith) };
       over-earlier = record { onward = omega arith; past = λ f h. absurd (omega arith); by = λ f h. absurd (omega arith); behind = λ f h. absurd (omega arith) };
     }
+
+-- where the hands stop
+module _ (t first second : ℕ) (es : List Entry) (last earlier served : List ℕ) (x : Twice t first second es last earlier served) (early : t < requestLimit) where
+  pub twice-stops : (at : ℕ) → at ≡ firstFrom (stops last earlier served) first (t - first) → Stopped first t at last earlier served
+  twice-stops at e =
+      stopped first t last earlier served frameLimit (x .over-last .onward) (omega (arith, x .moments)) (x .frames) (x .pasts) (λ k h. x .bytes k (omega arith)) at e
+
+  pub twice-stops₂ : (at : ℕ) → at ≡ firstFrom (stops earlier earlier served) second (t - second) → Stopped second t at earlier earlier served
+  twice-stops₂ at e =
+      stopped second t earlier earlier served frameLimit (x .over-earlier .onward) (omega (arith, x .moments)) (x .pasts) (x .pasts) (λ k h. x .bytes k (omega arith)) at e
 
 -- ---- what is chosen
 

@@ -1,16 +1,123 @@
 -- A hand over the moments: it finds the frame whose moment is least, and a request keeps what it needs.
 --
 -- A hand goes by two lists of moments, one for each frame; it is for the frames whose moment is the same in both. With the same list twice it is for all.
+-- In order: the first moment that passes a test; where a hand stops; what it needs, and finds; a request.
 -- Assumes nothing.
-use mathlib.Core.Path.{_≡_, sym, ap, _∙_}
-use mathlib.Core.Logic.{_⊎_, ⊎-elim}
+use mathlib.Core.Path.{_≡_, refl, sym, ap, _∙_}
+use mathlib.Core.Logic.{_⊎_, inl, inr}
+use mathlib.Core.Bool.{Bool, true, false}
 use mathlib.Core.List.{List}
-use Prim.Native.Nat.{ℕ, _+_, _≤_, _<_}
+use Prim.Native.Nat.{ℕ, zero, suc, _+_, _-_, _≤_, _<_}
+use native.Mathlib.Numerals.{add-one}
 use native.Mathlib.Omega.{arith}
 use native.Mathlib.Decide.{ℕ-discrete, decLt}
+use lib.Dec.{eqb}
 use lib.ListN.{length, getD, set}
 use lib.Seq.{getD-set-same, getD-set-other}
-use Rattle.walks.specs.Hands.{Stands, Stopped}
+use borrow.Author.Tests.{lt-ltb, le-ltb, eq-eqb, eqb-true}
+use Rattle.paging.specs.Lists.{pick, both}
+use Rattle.paging.proofs.Lists.{false≢true, both-first, both-second, both-true}
+use Rattle.walks.specs.Hands.{has, stops, firstFrom}
+
+-- ---- the first that passes a test, as the loop looks for it
+
+module _ (test : ℕ → Bool) (end at : ℕ) where
+  pub first-stops : at < end → test at ≡ true → at ≡ firstFrom test at (end - at)
+  unfolding firstFrom
+  first-stops h e = let m : end - at ≡ suc (end - suc at) = omega arith in rw (m, e) refl
+
+  pub first-passes : at < end → test at ≡ false → firstFrom test (at + 1) (end - (at + 1)) ≡ firstFrom test at (end - at)
+  unfolding firstFrom
+  first-passes h e = let m : end - at ≡ suc (end - suc at) = omega arith in rw (m, e, add-one at) refl
+
+  pub first-ends : end ≤ at → at ≡ firstFrom test at (end - at)
+  unfolding firstFrom
+  first-ends h = let m : end - at ≡ 0 = omega arith in rw m refl
+
+-- what it is
+First : (ℕ → Bool) → ℕ → ℕ → ℕ → Type 0
+First test k m r = (k ≤ r) × (r ≤ k + m) × ((j : ℕ) → k ≤ j → j < r → test j ≡ true → ⊥) × (r < k + m → test r ≡ true)
+
+first-is : (test : ℕ → Bool) (k m : ℕ) → First test k m (firstFrom test k m)
+unfolding First firstFrom
+first-is test k zero = (omega arith, omega arith, (λ j h l. absurd (omega arith)), λ h. absurd (omega arith))
+first-is test k (suc m) = go (test k) refl (first-is test (suc k) m)
+  where
+    go : (b : Bool) → test k ≡ b → First test (suc k) m (firstFrom test (suc k) m) → First test k (suc m) (pick b k (firstFrom test (suc k) m))
+    go true e f = (omega arith, omega arith, (λ j h l. absurd (omega arith)), λ h. e)
+    go false e f = (
+      omega (arith, f .0),
+      omega (arith, f .1),
+      (λ j h l p. elim (ℕ-discrete j k) [ yes q ↦ false≢true (sym e ∙ ap test (sym q) ∙ p) | no q ↦ f .2 j (omega arith) l p ]),
+      λ h. f .3 (omega arith),
+    )
+
+-- ---- where a hand stops
+
+module _ (moments others served : List ℕ) (k : ℕ) where
+  pub stops-past : length served ≤ k → stops moments others served k ≡ true
+  unfolding stops
+  stops-past h = rw (le-ltb k (length served) h)
+
+  module _ (h : k < length served) where
+    pub stops-both : has moments (getD served k 0) k ≡ true → has others (getD served k 0) k ≡ true → stops moments others served k ≡ true
+    unfolding stops
+    stops-both a b = rw (lt-ltb k (length served) h) (both-true (has moments (getD served k 0) k) (has others (getD served k 0) k) a b)
+
+    pub stops-not : (has moments (getD served k 0) k ≡ false) ⊎ (has others (getD served k 0) k ≡ false) → stops moments others served k ≡ false
+    unfolding stops
+    stops-not (inl a) = rw (lt-ltb k (length served) h, a)
+    stops-not (inr b) = rw (lt-ltb k (length served) h, b) (both-false (has moments (getD served k 0) k))
+      where
+        both-false : (a : Bool) → both a false ≡ false
+        both-false true = refl
+        both-false false = refl
+
+-- both lists have moment k for the frame served then
+abbrev pub Stands : List ℕ → List ℕ → List ℕ → ℕ → Type 0
+Stands moments others served k = (getD moments (getD served k 0) 0 ≡ k) × (getD others (getD served k 0) 0 ≡ k)
+
+-- at the first such moment, from `hand` on, before `end`; else at `end`
+pub record Stopped (hand end at : ℕ) (moments others served : List ℕ) : Type 0 where
+  pub onward : hand ≤ at
+  pub inside : at ≤ end
+  pub passed : (k : ℕ) → hand ≤ k → k < at → Stands moments others served k → ⊥
+  pub here : at < end → Stands moments others served at
+
+-- of lists of one length, where every frame served is one of theirs
+pub stopped : (hand end : ℕ) (moments others served : List ℕ) (frames : ℕ) → hand ≤ end → end ≤ length served → length moments ≡ frames → length others ≡ frames
+    → ((k : ℕ) → k < end → getD served k 0 < frames)
+    → (at : ℕ) → at ≡ firstFrom (stops moments others served) hand (end - hand) → Stopped hand end at moments others served
+unfolding First stops has
+stopped hand end moments others served frames order long same same₂ within at e =
+    let f : First (stops moments others served) hand (end - hand) at = rw e (first-is (stops moments others served) hand (end - hand)) in
+    record {
+      onward = f .0;
+      inside = omega (arith, f .1);
+      passed = λ k h l s. f .2 k h l (stand k (omega (arith, f .1)) s);
+      here = λ h. stood at h (f .3 (omega arith));
+    }
+  where
+    stand : (k : ℕ) → k < end → Stands moments others served k → stops moments others served k ≡ true
+    stand k h s =
+        let l : getD served k 0 < frames = within k h in
+        rw (
+          lt-ltb k (length served) (let m : k < length served = omega arith in m),
+          same,
+          same₂,
+          lt-ltb (getD served k 0) frames l,
+          eq-eqb (getD moments (getD served k 0) 0) k (s .0),
+          eq-eqb (getD others (getD served k 0) 0) k (s .1),
+        )
+
+    stood : (k : ℕ) → k < end → stops moments others served k ≡ true → Stands moments others served k
+    stood k h p =
+        let l : getD served k 0 < frames = within k h in
+        let q : both (eqb (getD moments (getD served k 0) 0) k) (eqb (getD others (getD served k 0) 0) k) ≡ true =
+        rw (lt-ltb k (length served) (let m : k < length served = omega arith in m), same, same₂, lt-ltb (getD served k 0) frames l) at p in
+        (eqb-true _ _ (both-first (eqb (getD moments (getD served k 0) 0) k) (eqb (getD others (getD served k 0) 0) k) q), eqb-true _ _ (both-second (eqb (getD moments (getD served k 0) 0) k) (eqb (getD others (getD served k 0) 0) k) q))
+
+-- ---- a hand
 
 -- just before moment t: each frame's moment is past, and its frame was served then; no frame of the hand's has a moment before it
 pub record Hand (t hand held : ℕ) (moments others served : List ℕ) : Type 0 where
@@ -18,13 +125,6 @@ pub record Hand (t hand held : ℕ) (moments others served : List ℕ) : Type 0 
   pub past : (f : ℕ) → f < held → getD moments f 0 < t
   pub by : (f : ℕ) → f < held → getD served (getD moments f 0) 0 ≡ f
   pub behind : (f : ℕ) → f < held → getD moments f 0 ≡ getD others f 0 → hand ≤ getD moments f 0
-
--- one moment more is passed
-pub passed-more : (hand at : ℕ) (moments others served : List ℕ)
-    → (getD moments (getD served at 0) 0 ≡ at → ⊥) ⊎ (getD others (getD served at 0) 0 ≡ at → ⊥)
-    → ((k : ℕ) → hand ≤ k → k < at → Stands moments others served k → ⊥) → (k : ℕ) → hand ≤ k → k < at + 1 → Stands moments others served k → ⊥
-passed-more hand at moments others served none before k h l s =
-    elim (ℕ-discrete k at) [ yes e ↦ ⊎-elim (λ a. a (rw (← e) (s .0))) (λ b. b (rw (← e) (s .1))) none | no e ↦ before k h (omega arith) s ]
 
 module _
     (t hand held : ℕ) (moments others served : List ℕ) (x : Hand t hand held moments others served)

@@ -3,15 +3,15 @@
 //
 // `served` has the frame in which the page of each moment stood then. A list of moments has one for each frame.
 ghost use mathlib.Core.Path.{_≡_};
-ghost use Prim.Native.Nat.{_≤_, _<_};
-ghost use lib.ListN.{length, take, set};
+ghost use Prim.Native.Nat.{_-_, _≤_, _<_};
+ghost use lib.ListN.{take, set};
 ghost use Rattle.paging.specs.Calls.{frameLimit};
 ghost use Rattle.paging.specs.Held.{frameAfter};
 ghost use Rattle.paging.specs.Walk.{faultOf, wordOf};
 ghost use Rattle.paging.specs.declared.Found.the-variants.{At};
 ghost use Rattle.held.specs.Index.{Indexed};
 ghost use Rattle.held.specs.Placing.{putOutcome, putPages, putCount};
-ghost use Rattle.walks.specs.Hands.{Stopped};
+ghost use Rattle.walks.specs.Hands.{has, stops, firstFrom};
 use paging::Found;
 use paging::Frame;
 use paging::Outcome;
@@ -41,16 +41,28 @@ fn frame_for(
     }
 }
 
+// Whether a list of moments has this one for the frame.
+fn has(moments: &[u16], frame: usize, moment: usize) -> bool
+    ensures { λ r. ⌜ r ≡ has (now (moments .entry)) frame moment ⌝ }
+{
+    if frame < moments.len() {
+        return moments[frame] as usize == moment;
+    }
+    false
+}
+
 // The first moment, from the hand on, that both lists have for the frame served then; where there is none before `end`, that.
 pub fn onward(hand: usize, end: usize, served: &[u8], moments: &[u16], others: &[u16]) -> usize
-    requires { ⌜ (hand ≤ end) × (end ≤ length (now served)) × (length (now moments) ≡ frameLimit) × (length (now others) ≡ frameLimit) ⌝ }
-    ensures { λ r. ⌜ Stopped hand end r (now (moments .entry)) (now (others .entry)) (now (served .entry)) ⌝ }
+    ensures { λ r. ⌜ r ≡ firstFrom (stops (now (moments .entry)) (now (others .entry)) (now (served .entry))) hand (end - hand) ⌝ }
 {
     let mut at = hand;
     while at < end {
+        if served.len() <= at {
+            return at;
+        }
         let frame = served[at] as usize;
-        if moments[frame] as usize == at {
-            if others[frame] as usize == at {
+        if has(moments, frame, at) {
+            if has(others, frame, at) {
                 return at;
             }
         }

@@ -8,8 +8,9 @@ use lib.ListN.{length}
 use Rattle.paging.specs.Walk.{entriesAt}
 use Rattle.paging.specs.declared.Rule.the-variants.{Lru}
 use Rattle.walks.specs.Tied.{seatAt}
+use Rattle.walks.proofs.Hands.{Stopped}
 use Rattle.walks.proofs.Walking.{Walk, walk-starts, walk-steps, walk-few, walk-ends, put-most, few, seat-is, goes-in, seat-low, seat-serves}
-use Rattle.lru.proofs.Lasts.{Lasts, lasts-start, lasts-move, lasts-know, lasts-step}
+use Rattle.lru.proofs.Lasts.{Lasts, lasts-start, lasts-stop, lasts-move, lasts-know, lasts-step}
 use Rattle.lru.proofs.walked.Statement.{statement}
 use Rattle.lru.proofs.walked.Tie as tie
 
@@ -37,13 +38,18 @@ more h = h .before .before .before .before .before .loop-test .taken
 early : (h : tie.After-onward Inv-loop μ-loop) → loop-of h .loop .i < 8000
 early h = omega (arith, more h, call-of (loop-of h) .pre .2)
 
+-- where the hand stops
+stop : (h : tie.After-onward Inv-loop μ-loop)
+    → Stopped (loop-of h .loop .hand) (loop-of h .loop .i) (h .onward .result) (loop-of h .loop .last) (loop-of h .loop .last) (loop-of h .loop .served)
+stop h = lasts-stop _ _ _ _ _ (loop-of h .loop .inv .1) (early h) _ (h .onward .ensures)
+
 -- the frame is the definition's, and one of the n
 seat : (a : tie.After-serve Inv-loop μ-loop)
     → a .serve .result .frame .0 ≡ seatAt Lru (call-of (loop-of (hand-of a)) .args .n) (call-of (loop-of (hand-of a)) .args .trace .now) (loop-of (hand-of a) .loop .i)
 seat a =
     let h = hand-of a in
     let l = loop-of (h) in
-    a .serve .ensures .0 ∙ seat-is Lru _ _ _ _ _ _ _ (l .loop .inv .0 .tied) _ (lasts-know _ _ _ _ _ _ _ _ _ _ (l .loop .inv .0 .tied) (l .loop .inv .1) (call-of l .pre .0) _ (h .onward .ensures))
+    a .serve .ensures .0 ∙ seat-is Lru _ _ _ _ _ _ _ (l .loop .inv .0 .tied) _ (lasts-know _ _ _ _ _ _ _ _ _ _ (l .loop .inv .0 .tied) (l .loop .inv .1) (call-of l .pre .0) _ (stop h))
 
 low : (a : tie.After-serve Inv-loop μ-loop) → a .serve .result .frame .0 < 256
 low a =
@@ -69,17 +75,14 @@ slice-aggregate-onward-3 : tie.Need-slice-aggregate-onward-3 Inv-loop μ-loop
 slice-aggregate-onward-3 c = sym (c .before .before .before .before .before .loop .inv .1 .frames)
 
 onward-requires : tie.Need-onward-requires Inv-loop μ-loop
-onward-requires c κs =
-    let l = c .before .before .before .before .before in
-    let x = l .loop .inv .1 in
-    (x .over .onward, omega (arith, x .moments, l .loop .inv .0 .running .passed, call-of l .pre .2), x .frames, x .frames)
+onward-requires c κs = search needs
 
 array-read-t28 : tie.Need-array-read-t28 Inv-loop μ-loop
-array-read-t28 c = omega (arith, c .onward .ensures .inside, early c, loop-of c .loop .inv .1 .moments)
+array-read-t28 c = omega (arith, stop c .inside, early c, loop-of c .loop .inv .1 .moments)
 
 cast-t19 : tie.Need-cast-t19 Inv-loop μ-loop
 cast-t19 c =
-    let k : c .onward .result < 8000 = omega (arith, c .onward .ensures .inside, early c) in omega (arith, loop-of c .loop .inv .1 .bytes (c .onward .result) k)
+    let k : c .onward .result < 8000 = omega (arith, stop c .inside, early c) in omega (arith, loop-of c .loop .inv .1 .bytes (c .onward .result) k)
 
 slice-aggregate-serve : tie.Need-slice-aggregate-serve Inv-loop μ-loop
 slice-aggregate-serve c = sym (loop-of (c .before) .loop .inv .0 .tied .index .room)
@@ -96,7 +99,7 @@ serve-requires c κs =
     let l = loop-of (h) in
     let s = call-of l in
     let x = l .loop .inv .0 .tied in
-    (x .index, few _ _ _ _ _ _ _ _ x, s .pre .1, goes-in Lru _ _ _ _ _ _ _ x (s .pre .0) _ (lasts-know _ _ _ _ _ _ _ _ _ _ (l .loop .inv .0 .tied) (l .loop .inv .1) (call-of l .pre .0) _ (h .onward .ensures)))
+    (x .index, few _ _ _ _ _ _ _ _ x, s .pre .1, goes-in Lru _ _ _ _ _ _ _ x (s .pre .0) _ (lasts-know _ _ _ _ _ _ _ _ _ _ (l .loop .inv .0 .tied) (l .loop .inv .1) (call-of l .pre .0) _ (stop h)))
 
 cast-last : tie.Need-cast-last Inv-loop μ-loop
 cast-last c = omega (arith, early (hand-of (c .before .before .before .before .before)))
@@ -137,7 +140,7 @@ loop-again c =
     let w = l .loop .inv .0 in
     let e = a .serve .ensures in (
       walk-steps Lru _ _ _ _ _ _ _ _ _ _ w (s .pre .0) (more (h)) _ (seat a) _ refl _ _ _ (e .1 .1 .1 .0) (e .1 .1 .1 .1 .0) _ (e .1 .1 .1 .1 .1) _ (e .1 .1 .0) _ (e .1 .0),
-      lasts-step _ _ _ _ _ (lasts-move _ _ _ _ _ (l .loop .inv .1) _ (h .onward .ensures)) (early h) _ _ _ _ (seat-serves Lru _ _ _ _ _ _ _ (w .tied) (s .pre .0) _ (seat a)) (low a),
+      lasts-step _ _ _ _ _ (lasts-move _ _ _ _ _ (l .loop .inv .1) _ (stop h)) (early h) _ _ _ _ (seat-serves Lru _ _ _ _ _ _ _ (w .tied) (s .pre .0) _ (seat a)) (low a),
     )
 
 same-length : tie.Need-same-length Inv-loop μ-loop

@@ -8,8 +8,9 @@ use lib.ListN.{length}
 use Rattle.paging.specs.Walk.{faultOf, entriesAt}
 use Rattle.paging.specs.declared.Rule.the-variants.{Lru2}
 use Rattle.walks.specs.Tied.{seatAt}
+use Rattle.walks.proofs.Hands.{Stopped}
 use Rattle.walks.proofs.Walking.{Walk, walk-starts, walk-told, walk-steps, walk-few, walk-ends, put-most, few, seat-is, goes-in, seat-low, seat-serves}
-use Rattle.lru2.proofs.Twice.{Twice, twice-starts, twice-moves, twice-knows, twice-steps, hand-inside}
+use Rattle.lru2.proofs.Twice.{Twice, twice-starts, twice-stops, twice-stops₂, twice-moves, twice-knows, twice-steps, hand-inside}
 use Rattle.lru2.proofs.walked.Statement.{statement}
 use Rattle.lru2.proofs.walked.Tie as tie
 
@@ -40,9 +41,19 @@ more h = h .before .before .before .before .before .loop-test .taken
 early : (h : tie.After-onward Inv-loop μ-loop) → loop-of h .loop .i < 8000
 early h = omega (arith, more h, call-of (loop-of h) .pre .2)
 
+-- where the hands stop
+stop : (h : tie.After-onward Inv-loop μ-loop)
+    → Stopped (loop-of h .loop .first) (loop-of h .loop .i) (h .onward .result) (loop-of h .loop .last) (loop-of h .loop .earlier) (loop-of h .loop .served)
+stop h = twice-stops _ _ _ _ _ _ _ (loop-of h .loop .inv .1) (early h) _ (h .onward .ensures)
+
+stop₂ : (h : tie.After-onward2 Inv-loop μ-loop)
+    → Stopped (loop-of (h .before .before .before .before) .loop .second) (loop-of (h .before .before .before .before) .loop .i) (h .onward2 .result)
+    (loop-of (h .before .before .before .before) .loop .earlier) (loop-of (h .before .before .before .before) .loop .earlier) (loop-of (h .before .before .before .before) .loop .served)
+stop₂ h = let one = h .before .before .before .before in twice-stops₂ _ _ _ _ _ _ _ (loop-of one .loop .inv .1) (early one) _ (h .onward2 .ensures)
+
 -- the hand that counts stands no later
 inside : (h : tie.After-hand-of Inv-loop μ-loop) → h .hand-of .result ≤ loop-of (first-of h) .loop .i
-inside h = hand-inside _ _ _ (h .before .onward2 .ensures .inside) _ (h .hand-of .ensures)
+inside h = hand-inside _ _ _ (stop₂ (h .before) .inside) _ (h .hand-of .ensures)
 
 -- the frame is the definition's, and one of the n
 seat : (a : tie.After-serve Inv-loop μ-loop)
@@ -50,7 +61,7 @@ seat : (a : tie.After-serve Inv-loop μ-loop)
 seat a =
     let h = hand-of a in
     let l = loop-of (first-of h) in
-    a .serve .ensures .0 ∙ seat-is Lru2 _ _ _ _ _ _ _ (l .loop .inv .0 .tied) _ (twice-knows _ _ _ _ _ _ _ _ _ _ _ _ (l .loop .inv .0 .tied) (l .loop .inv .1) (call-of l .pre .0) _ (first-of h .onward .ensures) _ (h .before .onward2 .ensures) _ (h .hand-of .ensures))
+    a .serve .ensures .0 ∙ seat-is Lru2 _ _ _ _ _ _ _ (l .loop .inv .0 .tied) _ (twice-knows _ _ _ _ _ _ _ _ _ _ _ _ (l .loop .inv .0 .tied) (l .loop .inv .1) (call-of l .pre .0) _ (stop (first-of h)) _ (stop₂ (h .before)) _ (h .hand-of .ensures))
 
 low : (a : tie.After-serve Inv-loop μ-loop) → a .serve .result .frame .0 < 256
 low a =
@@ -76,10 +87,7 @@ slice-aggregate-onward-3 : tie.Need-slice-aggregate-onward-3 Inv-loop μ-loop
 slice-aggregate-onward-3 c = sym (c .before .before .before .before .before .loop .inv .1 .pasts)
 
 onward-requires : tie.Need-onward-requires Inv-loop μ-loop
-onward-requires c κs =
-    let l = c .before .before .before .before .before in
-    let x = l .loop .inv .1 in
-    (x .over-last .onward, omega (arith, x .moments, l .loop .inv .0 .running .passed, call-of l .pre .2), x .frames, x .pasts)
+onward-requires c κs = search needs
 
 slice-aggregate-onward-4 : tie.Need-slice-aggregate-onward-4 Inv-loop μ-loop
 slice-aggregate-onward-4 c = sym (loop-of (c .before) .loop .inv .1 .moments)
@@ -91,10 +99,7 @@ slice-aggregate-onward-6 : tie.Need-slice-aggregate-onward-6 Inv-loop μ-loop
 slice-aggregate-onward-6 c = sym (loop-of (c .before .before .before) .loop .inv .1 .pasts)
 
 onward-requires-2 : tie.Need-onward-requires-2 Inv-loop μ-loop
-onward-requires-2 c κs =
-    let h = c .before .before .before in
-    let x = loop-of h .loop .inv .1 in
-    (x .over-earlier .onward, omega (arith, x .moments, early h), x .pasts, x .pasts)
+onward-requires-2 c κs = search needs
 
 hand-of-requires : tie.Need-hand-of-requires Inv-loop μ-loop
 hand-of-requires c κs = search needs
@@ -122,7 +127,7 @@ serve-requires c κs =
     let l = loop-of (first-of h) in
     let s = call-of l in
     let x = l .loop .inv .0 .tied in
-    (x .index, few _ _ _ _ _ _ _ _ x, s .pre .1, goes-in Lru2 _ _ _ _ _ _ _ x (s .pre .0) _ (twice-knows _ _ _ _ _ _ _ _ _ _ _ _ (l .loop .inv .0 .tied) (l .loop .inv .1) (call-of l .pre .0) _ (first-of h .onward .ensures) _ (h .before .onward2 .ensures) _ (h .hand-of .ensures)))
+    (x .index, few _ _ _ _ _ _ _ _ x, s .pre .1, goes-in Lru2 _ _ _ _ _ _ _ x (s .pre .0) _ (twice-knows _ _ _ _ _ _ _ _ _ _ _ _ (l .loop .inv .0 .tied) (l .loop .inv .1) (call-of l .pre .0) _ (stop (first-of h)) _ (stop₂ (h .before)) _ (h .hand-of .ensures)))
 
 cast-at : tie.Need-cast-at Inv-loop μ-loop
 cast-at c = omega (arith, low (c .before .before .before .before .before .before))
@@ -181,7 +186,7 @@ loop-again c =
     let w = l .loop .inv .0 in
     let e = a .serve .ensures in (
       walk-steps Lru2 _ _ _ _ _ _ _ _ _ _ w (s .pre .0) (more (first-of h)) _ (seat a) _ refl _ _ _ (e .1 .1 .1 .0) (e .1 .1 .1 .1 .0) _ (e .1 .1 .1 .1 .1) _ (e .1 .1 .0) _ (e .1 .0),
-      twice-steps _ _ _ _ _ _ _ (twice-moves _ _ _ _ _ _ _ (l .loop .inv .1) _ (first-of h .onward .ensures) _ (h .before .onward2 .ensures)) (early (first-of h)) _ _ _ _ (seat-serves Lru2 _ _ _ _ _ _ _ (w .tied) (s .pre .0) _ (seat a)) (low a) _ (e .1 .1 .0 ∙ ap faultOf (walk-told Lru2 _ _ _ _ _ _ _ _ _ _ w (s .pre .0) (more (first-of h)) _ (seat a) _ refl)) _ (c .before .earlier-for .ensures),
+      twice-steps _ _ _ _ _ _ _ (twice-moves _ _ _ _ _ _ _ (l .loop .inv .1) _ (stop (first-of h)) _ (stop₂ (h .before))) (early (first-of h)) _ _ _ _ (seat-serves Lru2 _ _ _ _ _ _ _ (w .tied) (s .pre .0) _ (seat a)) (low a) _ (e .1 .1 .0 ∙ ap faultOf (walk-told Lru2 _ _ _ _ _ _ _ _ _ _ w (s .pre .0) (more (first-of h)) _ (seat a) _ refl)) _ (c .before .earlier-for .ensures),
     )
 
 same-length : tie.Need-same-length Inv-loop μ-loop

@@ -1,68 +1,49 @@
--- `walks::onward` meets its contract: the loop passed no moment at which it would have stopped.
+-- `walks::onward` meets its contract: the first from where the loop stands is the first from the hand on.
 -- Assumes nothing.
+use mathlib.Core.Path.{_≡_, refl, sym, _∙_}
 use mathlib.Core.Logic.{inl, inr, ⊎-elim}
-use Prim.Native.Nat.{ℕ, _-_, _≤_, _<_}
+use Prim.Native.Nat.{_-_}
 use native.Mathlib.Omega.{arith}
-use lib.ListN.{getD}
 use borrow.Author.Needs.{needs}
-use Rattle.walks.specs.Hands.{Stands}
-use Rattle.walks.proofs.Hands.{passed-more}
+use Rattle.walks.specs.Hands.{stops, firstFrom}
+use Rattle.walks.proofs.Hands.{first-stops, first-passes, first-ends, stops-past, stops-both, stops-not}
 use Rattle.walks.proofs.onward.Statement.{statement}
 use Rattle.walks.proofs.onward.Tie as tie
 
 abbrev Inv-loop : tie.InvT-loop
 Inv-loop hand end served moments others at₀ at =
-    (hand ≤ at) × (at ≤ end) × ((k : ℕ) → hand ≤ k → k < at → Stands moments others served k → ⊥)
+    firstFrom (stops moments others served) at (end - at) ≡ firstFrom (stops moments others served) hand (end - hand)
 
 abbrev μ-loop : tie.MeasureT-loop
 μ-loop hand end served moments others at₀ at = end - at
 
--- the frame served at the moment looked at
-abbrev frame-of : tie.After-shared-slice-known Inv-loop μ-loop → ℕ
-frame-of c = getD (c .before .before .before .args .served .now) (c .before .before .loop .at) 0
-
 loop-holds : tie.Need-loop-holds Inv-loop μ-loop
-loop-holds c = (omega arith, c .pre .0, λ k h l s. absurd (omega arith))
+loop-holds c = refl
+
+returns : tie.Need-returns Inv-loop μ-loop
+returns c =
+    let l = c .before in
+    first-stops _ _ _ (l .loop-test .taken) (stops-past _ _ _ _ (c .if1 .taken)) ∙ l .before .loop .inv
 
 shared-slice-read-frame : tie.Need-shared-slice-read-frame Inv-loop μ-loop
 shared-slice-read-frame c = search needs
 
 cast-frame : tie.Need-cast-frame Inv-loop μ-loop
-cast-frame c = omega (arith, c .shared-slice-known .given (c .before .before .loop .at))
+cast-frame c = omega (arith, c .shared-slice-known4 .given (c .before .before .before .loop .at))
 
-mul-if1 : tie.Need-mul-if1 Inv-loop μ-loop
-mul-if1 c = omega (arith, c .shared-slice-known .given (c .before .before .loop .at))
+has-requires : tie.Need-has-requires Inv-loop μ-loop
+has-requires c κs = search needs
 
-shared-slice-read-if1 : tie.Need-shared-slice-read-if1 Inv-loop μ-loop
-shared-slice-read-if1 c =
-    let seen = c .before in
-    omega (arith, seen .shared-slice-known .given (seen .before .before .loop .at), seen .before .before .before .pre .2)
+has-requires-2 : tie.Need-has-requires-2 Inv-loop μ-loop
+has-requires-2 c κs = search needs
 
-cast-if1 : tie.Need-cast-if1 Inv-loop μ-loop
-cast-if1 c = omega (arith, c .shared-slice-known2 .given (frame-of (c .before)))
-
-mul-if2 : tie.Need-mul-if2 Inv-loop μ-loop
-mul-if2 c =
-    let seen = c .before .before in omega (arith, seen .shared-slice-known .given (seen .before .before .loop .at))
-
-shared-slice-read-if2 : tie.Need-shared-slice-read-if2 Inv-loop μ-loop
-shared-slice-read-if2 c =
-    let seen = c .before .before .before in
-    omega (arith, seen .shared-slice-known .given (seen .before .before .loop .at), seen .before .before .before .pre .3)
-
-cast-if2 : tie.Need-cast-if2 Inv-loop μ-loop
-cast-if2 c = omega (arith, c .shared-slice-known3 .given (frame-of (c .before .before .before)))
-
-returns : tie.Need-returns Inv-loop μ-loop
-returns c =
-    let one = c .before .before in
+returns-2 : tie.Need-returns-2 Inv-loop μ-loop
+returns-2 c =
+    let two = c .before .before in
+    let one = two .before in
     let l = one .before .before .before in
-    record {
-      onward = l .before .loop .inv .0;
-      inside = l .before .loop .inv .1;
-      passed = l .before .loop .inv .2;
-      here = λ h. (one .if1 .taken, c .if2 .taken);
-    }
+    let both = stops-both _ _ _ _ (one .before .before .if1 .left) (sym (one .has .ensures) ∙ two .if2 .taken) (sym (c .before .has2 .ensures) ∙ c .if3 .taken) in
+    first-stops _ _ _ (l .loop-test .taken) both ∙ l .before .loop .inv
 
 add-at : tie.Need-add-at Inv-loop μ-loop
 add-at c = search needs
@@ -72,15 +53,15 @@ loop-less c = search needs
 
 loop-again : tie.Need-loop-again Inv-loop μ-loop
 loop-again c =
-    let l = c .before .before .before in
-    let inv = l .before .loop .inv in
-    let a = l .before .before .args in
-    (omega (arith, inv .0), omega (arith, l .loop-test .taken), passed-more _ _ (a .moments .now) (a .others .now) (a .served .now) (⊎-elim (λ w. inr (w .2 .left)) (λ w. inl (w .left)) (c .if1 .came)) (inv .2))
+    let one = c .before in
+    let l = one .before .before .before in
+    let a = l .before .before .before .before .before .args in
+    let none = stops-not (a .moments .now) (a .others .now) (a .served .now) (l .before .loop .at) (one .before .before .if1 .left)
+    (⊎-elim (λ w. inr (sym (w .1 .ensures) ∙ w .2 .left)) (λ w. inl (sym (one .has .ensures) ∙ w .left)) (c .if2 .came)) in
+    first-passes _ _ _ (l .loop-test .taken) none ∙ l .before .loop .inv
 
-returns-2 : tie.Need-returns-2 Inv-loop μ-loop
-returns-2 c =
-    let inv = c .before .loop .inv in
-    record { onward = inv .0; inside = inv .1; passed = inv .2; here = λ h. absurd (omega (arith, c .loop-test .left)) }
+returns-3 : tie.Need-returns-3 Inv-loop μ-loop
+returns-3 c = first-ends _ _ _ (c .loop-test .left) ∙ c .before .loop .inv
 
 pub onward-spec : {M : Type 1} → statement M
 onward-spec =
@@ -89,16 +70,13 @@ onward-spec =
     Inv-loop
     μ-loop
     loop-holds
+    returns
     shared-slice-read-frame
     cast-frame
-    mul-if1
-    shared-slice-read-if1
-    cast-if1
-    mul-if2
-    shared-slice-read-if2
-    cast-if2
-    returns
+    has-requires
+    has-requires-2
+    returns-2
     add-at
     loop-less
     loop-again
-    returns-2)
+    returns-3)
