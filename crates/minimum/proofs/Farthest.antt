@@ -1,30 +1,39 @@
--- MIN's walk over pages alone is the walk of rule 3; and the page that goes first is unique.
+-- MIN's choice over pages alone is the choice of rule 3; and the page that goes first is unique.
 -- Assumes nothing.
 use mathlib.Core.Path.{_≡_, refl, sym, ap, ap₂, _∙_}
 use mathlib.Core.Logic.{⊎-elim}
 use mathlib.Core.Bool.{Bool, true, false}
-use mathlib.Core.List.{List, [], _∷_, _++_}
+use mathlib.Core.List.{List, _∷_}
 use Prim.Native.Nat.{ℕ, suc, _+_, _≤_, _<_}
 use native.Mathlib.Omega.{arith}
 use lib.Dec.{eqb, leb}
 use lib.ListN.{length, getD}
 use borrow.Author.Tests.{leb-true, le-leb, eqb-true, eqb-false, ne-eqb}
-use Rattle.paging.specs.Lists.{both, implies, all, placeOf}
-use Rattle.paging.specs.Rules.{Sees, between, nextOf, never, minDrops, drops, chosen}
-use Rattle.paging.specs.Walk.{pages, outcome, next, outcomes}
-use Rattle.paging.specs.Held.{heldAfter}
-use Rattle.paging.specs.declared.Found.the-variants.{At}
+use Rattle.paging.specs.Lists.{both, implies, all, indexOf, placeOf}
+use Rattle.paging.specs.Rules.{Sees, nextOf, never, minDrops, drops, chosen}
+use Rattle.paging.specs.Walk.{pages}
+use Rattle.paging.specs.Meanings.{Apart}
 use Rattle.paging.specs.declared.Entry.{Entry}
 use Rattle.paging.specs.declared.Rule.the-variants.{Min}
-use Rattle.paging.specs.declared.Outcome.{Outcome}
 use Rattle.paging.proofs.Lists.{bool-cases, both-first, both-second, both-true, implied, implies-true, all-at, at-all, all-map, index-map, index-same, index-is, index-passes}
 use Rattle.paging.proofs.Choice.{next-le, never-next}
-use Rattle.paging.specs.Meanings.{Apart}
-use Rattle.paging.proofs.Frames.{pages-length, pages-at, pages-after}
-use Rattle.minimum.specs.Devices.Farthest.{goesFirst, farthest, minOutcome, minNext, minOutcomes}
 use Rattle.minimum.specs.Devices.Turns.{Behind}
 
--- ---- the walk
+-- ---- the choice over pages
+
+-- page q fits row 3 of the table, among the held pages
+unfoldable pub goesFirst : List ℕ → List ℕ → ℕ → Bool
+unfolding all nextOf never
+goesFirst rest held q =
+    both (all (λ (d : ℕ). leb (nextOf rest d) (nextOf rest q)) held)
+    (implies (never rest q) (all (λ (d : ℕ). implies (never rest d) (leb q d)) held))
+
+-- the frame whose page goes
+unfoldable pub farthest : List ℕ → List ℕ → ℕ
+unfolding goesFirst indexOf
+farthest rest held = indexOf (goesFirst rest held) held
+
+-- ---- it is the choice of rule 3
 
 fits-same : (rest : List ℕ) (es : List Entry) (e : Entry) → minDrops rest es e ≡ goesFirst rest (pages es) (e .page .0)
 unfolding minDrops goesFirst
@@ -33,27 +42,12 @@ fits-same rest es e =
     (sym (all-map (λ (d : Entry). d .page .0) (λ (d : ℕ). leb (nextOf rest d) (nextOf rest (e .page .0))) es))
     (sym (all-map (λ (d : Entry). d .page .0) (λ (d : ℕ). implies (never rest d) (leb (e .page .0) d)) es))
 
-chosen-same : (sees : Sees) (es : List Entry) → chosen Min sees es ≡ farthest (sees .rest) (pages es)
+-- MIN READS NO MOMENTS
+pub chosen-same : (sees : Sees) (es : List Entry) → chosen Min sees es ≡ farthest (sees .rest) (pages es)
 unfolding chosen drops farthest
 chosen-same sees es =
     index-same (minDrops (sees .rest) es) (λ (e : Entry). goesFirst (sees .rest) (pages es) (e .page .0)) (fits-same (sees .rest) es) es
     ∙ sym (index-map (λ (e : Entry). e .page .0) (goesFirst (sees .rest) (pages es)) es)
-
-outcome-same : (n p : ℕ) (sees : Sees) (es : List Entry) → outcome Min n p sees es ≡ minOutcome n p (sees .rest) (pages es)
-unfolding outcome minOutcome
-outcome-same n p sees es = rw (pages-length es, ← chosen-same sees es, pages-at es (chosen Min sees es))
-
-next-same : (n t p : ℕ) (sees : Sees) (es : List Entry) → pages (next Min n t p sees es) ≡ minNext n p (sees .rest) (pages es)
-unfolding minNext
-next-same n t p sees es = pages-after Min n t p sees es ∙ ap (λ (f : ℕ). heldAfter n p (At (record { 0 = f })) (pages es)) (chosen-same sees es)
-
--- THE WALK OF RULE 3, over pages
-pub min-walks : (n : ℕ) (past ps : List ℕ) (t : ℕ) (es : List Entry) → outcomes Min n t past ps es ≡ minOutcomes n ps (pages es)
-unfolding outcomes minOutcomes
-min-walks n past [] t es = refl
-min-walks n past (p ∷ ps) t es =
-    ap₂ (λ (o : Outcome) (os : List Outcome). o ∷ os) (outcome-same n p (between past ps) es)
-    (min-walks n (past ++ (p ∷ [])) ps (suc t) (next Min n t p (between past ps) es) ∙ ap (minOutcomes n ps) (next-same n t p (between past ps) es))
 
 -- ---- how far off a page's next request is
 

@@ -1,5 +1,4 @@
--- What the proofs of MIN over a whole trace use, and that its walk is rule 3's.
+-- What the proofs of MIN over a whole trace use, and that its choice is rule 3's.
 pub mod Farthest
 pub mod Scan
 pub mod Serving
-pub mod Running

@@ -4,7 +4,7 @@ use mathlib.Core.Path.{_≡_, refl}
 use mathlib.Core.Logic.{_⊎_, inl, inr}
 use mathlib.Core.Bool.{Bool, true, false}
 use mathlib.Core.List.{List}
-use Prim.Native.Nat.{ℕ, _+_, _<_}
+use Prim.Native.Nat.{ℕ, _+_, _≤_, _<_}
 use native.Mathlib.Omega.{arith}
 use native.Mathlib.Decide.{ℕ-discrete}
 use lib.Dec.{ltb}
@@ -14,9 +14,15 @@ use Rattle.paging.specs.Lists.{pick}
 use Rattle.paging.proofs.Lists.{false≢true, true≢false}
 use Rattle.minimum.specs.Devices.Turns.{goesBefore, Behind}
 
-module _ (pages turns : List ℕ) where
-  pub behind-first : (j : ℕ) → j < 1 → Behind pages turns j 0
-  behind-first j h = let e : j ≡ 0 = omega arith in rw e (inr (refl, omega arith))
+-- of the first i frames the best is this one
+pub record Best (held : ℕ) (pages turns : List ℕ) (best i : ℕ) : Type 0 where
+  pub passed : best < i
+  pub inside : i ≤ held
+  pub behind : (j : ℕ) → j < i → Behind pages turns j best
+
+module _ (held : ℕ) (pages turns : List ℕ) where
+  pub best-first : 0 < held → Best held pages turns 0 1
+  best-first h = record { passed = omega arith; inside = h; behind = λ j k. let e : j ≡ 0 = omega arith in rw e (inr (refl, omega arith)) }
 
   -- what the test says of two frames
   goes-true : (i b : ℕ) → goesBefore (getD turns i 0) (getD pages i 0) (getD turns b 0) (getD pages b 0) ≡ true
@@ -40,18 +46,21 @@ module _ (pages turns : List ℕ) where
       go false false p q e = inr (omega (arith, ltb-false (getD turns b 0) (getD turns i 0) p, ltb-false (getD turns i 0) (getD turns b 0) q), ltb-false _ _ e)
 
   -- one frame more: it becomes the best, or the best stays
-  pub behind-new : (i b : ℕ) → ((j : ℕ) → j < i → Behind pages turns j b)
-      → goesBefore (getD turns i 0) (getD pages i 0) (getD turns b 0) (getD pages b 0) ≡ true → (j : ℕ) → j < i + 1 → Behind pages turns j i
-  behind-new i b far e j h =
-      elim (ℕ-discrete j i)
-      [ yes x ↦ rw x (inr (refl, omega arith)) | no x ↦ go (far j (omega arith)) (goes-true i b e) ]
-    where
-      go : Behind pages turns j b → (getD turns b 0 < getD turns i 0) ⊎ ((getD turns b 0 ≡ getD turns i 0) × (getD pages i 0 < getD pages b 0)) → Behind pages turns j i
-      go (inl x) (inl y) = inl (omega arith)
-      go (inl x) (inr y) = inl (omega arith)
-      go (inr x) (inl y) = inl (omega arith)
-      go (inr x) (inr y) = inr (omega arith, omega arith)
+  module _ (b i : ℕ) (x : Best held pages turns b i) (more : i < held) where
+    pub best-new : goesBefore (getD turns i 0) (getD pages i 0) (getD turns b 0) (getD pages b 0) ≡ true → (best : ℕ) → best ≡ i → Best held pages turns best (i + 1)
+    best-new e best is = rw is record { passed = omega arith; inside = omega arith; behind = behind }
+      where
+        go : (j : ℕ) → Behind pages turns j b → (getD turns b 0 < getD turns i 0) ⊎ ((getD turns b 0 ≡ getD turns i 0) × (getD pages i 0 < getD pages b 0)) → Behind pages turns j i
+        go j (inl u) (inl v) = inl (omega arith)
+        go j (inl u) (inr v) = inl (omega arith)
+        go j (inr u) (inl v) = inl (omega arith)
+        go j (inr u) (inr v) = inr (omega arith, omega arith)
 
-  pub behind-old : (i b : ℕ) → ((j : ℕ) → j < i → Behind pages turns j b)
-      → goesBefore (getD turns i 0) (getD pages i 0) (getD turns b 0) (getD pages b 0) ≡ false → (j : ℕ) → j < i + 1 → Behind pages turns j b
-  behind-old i b far e j h = elim (ℕ-discrete j i) [ yes x ↦ rw x (goes-false i b e) | no x ↦ far j (omega arith) ]
+        behind : (j : ℕ) → j < i + 1 → Behind pages turns j i
+        behind j h = elim (ℕ-discrete j i) [ yes y ↦ rw y (inr (refl, omega arith)) | no y ↦ go j (x .behind j (omega arith)) (goes-true i b e) ]
+
+    pub best-old : goesBefore (getD turns i 0) (getD pages i 0) (getD turns b 0) (getD pages b 0) ≡ false → (best : ℕ) → best ≡ b → Best held pages turns best (i + 1)
+    best-old e best is = rw is record { passed = omega (arith, x .passed); inside = omega arith; behind = behind }
+      where
+        behind : (j : ℕ) → j < i + 1 → Behind pages turns j b
+        behind j h = elim (ℕ-discrete j i) [ yes y ↦ rw y (goes-false i b e) | no y ↦ x .behind j (omega arith) ]

@@ -3,12 +3,12 @@
 // A walk owns the held pages with their index (crate `held`) and their turns, and lends them to each request as slices of numbers.
 ghost use mathlib.Core.Path.{_≡_};
 ghost use Prim.Native.Nat.{ℕ, _+_, _≤_, _<_};
-ghost use lib.ListN.{length, getD, take, drop};
+ghost use lib.ListN.{length, getD};
 ghost use Rattle.paging.specs.Walk.{faults, plan};
 ghost use Rattle.paging.specs.Calls.{frameLimit, requestLimit, traceTests};
 ghost use Rattle.paging.specs.Services.{answered, laid, written};
 ghost use Rattle.paging.specs.declared.Rule.the-variants.{Min};
-ghost use Rattle.minimum.specs.Devices.Farthest.{minFrame};
+ghost use Rattle.walks.specs.Tied.{seatAt};
 ghost use Rattle.minimum.specs.Devices.Turns.{turnOf, goesBefore, Behind, Fair};
 use paging::Answer;
 use paging::Found;
@@ -67,7 +67,7 @@ fn frame_for(
     turns: &[u32],
 ) -> Frame
     requires { ⌜ (Fair n (now trace) t held (now pages) (now counts) (now hints) (now turns)) × (1 ≤ n) × (t < length (now trace)) ⌝ }
-    ensures { λ r. ⌜ (r .0 < n) × (r .0 ≡ minFrame n (getD (now (trace .entry)) t 0) (drop (t + 1) (now (trace .entry))) (take held (now (pages .entry)))) ⌝ }
+    ensures { λ r. ⌜ r .0 ≡ seatAt Min n (now (trace .entry)) t ⌝ }
 {
     match held::find(Page(trace[t]), held, pages, counts, hints) {
         Found::At(frame) => frame,
@@ -95,16 +95,10 @@ fn walked(n: u32, trace: &[u32], words: &mut [u32]) -> u32
     while i < trace.len() {
         let page = Page(trace[i]);
         let frame = frame_for(n as usize, trace, i, held, &pages, &counts, &hints, &turns);
-        let o = held::put(page, frame, held, &mut pages, &mut counts, &mut hints);
-        let at = frame.0 as usize;
-        turns[at] = next_request(trace, i);
-        faults += o.fault();
-        if i < words.len() {
-            words[i] = o.word();
-        }
-        if held <= at {
-            held += 1;
-        }
+        let outcome = held::put(page, frame, held, &mut pages, &mut counts, &mut hints);
+        turns[frame.0 as usize] = next_request(trace, i);
+        faults += walks::told(outcome, i, words);
+        held = walks::count_after(frame, held);
         i += 1;
     }
     faults

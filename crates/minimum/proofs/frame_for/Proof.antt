@@ -1,11 +1,11 @@
--- `minimum::frame_for` meets its contract: one of the three ways of `Serving`.
+-- `minimum::frame_for` meets its contract: the page's own frame, the next free one, or that of the page whose turn is latest.
 -- Assumes nothing.
 use mathlib.Core.Path.{_≡_, sym, _∙_}
 use lib.ListN.{getD, take}
 use borrow.Author.Needs.{needs}
 use Rattle.paging.specs.Held.{found}
 use Rattle.paging.specs.declared.Found.the-variants.{Absent}
-use Rattle.minimum.proofs.Serving.{frame-hit, frame-room, frame-full}
+use Rattle.minimum.proofs.Serving.{seat-own, seat-free, seat-latest}
 use Rattle.minimum.proofs.frame_for.Statement.{statement}
 use Rattle.minimum.proofs.frame_for.Tie as tie
 
@@ -41,7 +41,7 @@ returns : tie.Need-returns
 returns c =
     let told = c .before in
     let s = call-of (told .before .before) in
-    frame-room _ _ _ _ _ _ _ _ (s .pre .0) (s .pre .2) (absent told) (c .if1 .taken)
+    seat-free _ _ _ _ _ _ _ _ (s .pre .0) (s .pre .2) (absent told) (c .if1 .taken)
 
 latest-requires : tie.Need-latest-requires
 latest-requires c κs = search needs
@@ -50,13 +50,13 @@ returns-2 : tie.Need-returns-2
 returns-2 c =
     let at = c .before .before .before in
     let s = call-of at in
-    frame-hit _ _ _ _ _ _ _ _ (s .pre .0) (s .pre .2) _ (sym (at .find .ensures) ∙ c .before .frame .given .1)
+    seat-own _ _ _ _ _ _ _ _ (s .pre .0) (s .pre .2) _ (sym (at .find .ensures) ∙ c .before .frame .given .1)
 
 returns-3 : tie.Need-returns-3
 returns-3 c =
     let told = c .before .before in
     let s = call-of (told .before .before) in
-    frame-full _ _ _ _ _ _ _ _ (s .pre .0) (s .pre .2) (absent told) (c .before .if1 .left) _ (c .latest .ensures .0) (c .latest .ensures .1)
+    seat-latest _ _ _ _ _ _ _ _ (s .pre .0) (s .pre .2) (absent told) (c .before .if1 .left) _ (c .latest .ensures .0) (c .latest .ensures .1)
 
 pub frame-for-spec : {M : Type 1} → statement M
 frame-for-spec =

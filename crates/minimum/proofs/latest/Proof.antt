@@ -1,27 +1,22 @@
--- `minimum::latest` meets its contract. The loop's invariant: every frame passed stands behind the best.
+-- `minimum::latest` meets its contract: the loop's invariant is `Best`.
 -- Assumes nothing.
-use mathlib.Core.Path.{_≡_, sym, _∙_}
+use mathlib.Core.Path.{sym, _∙_}
 use mathlib.Core.Logic.{⊎-elim}
-use Prim.Native.Nat.{ℕ, _≤_, _<_, _-_}
+use Prim.Native.Nat.{_-_}
 use native.Mathlib.Omega.{arith}
-use lib.ListN.{length}
 use borrow.Author.Needs.{needs}
-use Rattle.minimum.specs.Devices.Turns.{Behind}
-use Rattle.minimum.proofs.Scan.{behind-first, behind-new, behind-old}
+use Rattle.minimum.proofs.Scan.{Best, best-first, best-new, best-old}
 use Rattle.minimum.proofs.latest.Statement.{statement}
 use Rattle.minimum.proofs.latest.Tie as tie
 
 abbrev Inv-loop : tie.InvT-loop
-Inv-loop held pages turns best₀ i₀ best i =
-    (best < i) × (i ≤ held) × (held ≤ 256) × (length pages ≡ 256) × (length turns ≡ 256) × ((j : ℕ) → j < i → Behind pages turns j best)
+Inv-loop held pages turns best₀ i₀ best i = Best held pages turns best i
 
 abbrev μ-loop : tie.MeasureT-loop
 μ-loop held pages turns best₀ i₀ best i = held - i
 
 loop-holds : tie.Need-loop-holds Inv-loop μ-loop
-loop-holds c =
-    let s = c .before .before in
-    (omega arith, s .pre .0, s .pre .1, s .pre .2, s .pre .3, behind-first (s .args .pages .now) (s .args .turns .now))
+loop-holds c = let s = c .before .before in best-first _ (s .args .pages .now) (s .args .turns .now) (s .pre .0)
 
 mul-beyond : tie.Need-mul-beyond Inv-loop μ-loop
 mul-beyond c = search needs
@@ -58,34 +53,19 @@ loop-less c = search needs
 
 loop-again : tie.Need-loop-again Inv-loop μ-loop
 loop-again c =
-    let loop = c .before .before .before .before .before .before .before .loop in
-    let s = c .before .before .before .before .before .before .before .before .before .before in
+    let l = c .before .before .before .before .before .before in
+    let loop = l .before .loop in
+    let s = l .before .before .before .before in
     ⊎-elim
-    (λ w.
-    rw (w .1) (
-      omega arith,
-      omega arith,
-      loop .inv .2,
-      loop .inv .3,
-      loop .inv .4,
-      behind-new (s .args .pages .now) (s .args .turns .now) (loop .i) (loop .best) (loop .inv .5) (sym (c .before .beyond .ensures) ∙ w .0 .taken),
-    ))
-    (λ w.
-    rw (w .1) (
-      omega arith,
-      omega arith,
-      loop .inv .2,
-      loop .inv .3,
-      loop .inv .4,
-      behind-old (s .args .pages .now) (s .args .turns .now) (loop .i) (loop .best) (loop .inv .5) (sym (c .before .beyond .ensures) ∙ w .0 .left),
-    ))
+    (λ w. best-new _ (s .args .pages .now) (s .args .turns .now) (loop .best) (loop .i) (loop .inv) (l .loop-test .taken) (sym (c .before .beyond .ensures) ∙ w .0 .taken) _ (w .1))
+    (λ w. best-old _ (s .args .pages .now) (s .args .turns .now) (loop .best) (loop .i) (loop .inv) (l .loop-test .taken) (sym (c .before .beyond .ensures) ∙ w .0 .left) _ (w .1))
     (c .if1 .came)
 
 cast-t20 : tie.Need-cast-t20 Inv-loop μ-loop
 cast-t20 c = search needs
 
 returns : tie.Need-returns Inv-loop μ-loop
-returns c = (omega arith, λ j h. c .before .loop .inv .5 j (omega arith))
+returns c = (omega (arith, c .before .loop .inv .passed), λ j h. c .before .loop .inv .behind j (omega arith))
 
 pub latest-spec : {M : Type 1} → statement M
 latest-spec =

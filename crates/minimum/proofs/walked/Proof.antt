@@ -1,36 +1,74 @@
--- `minimum::walked` meets its contract: the loop's invariant is `Running`.
+-- `minimum::walked` meets its contract: the loop's invariant is `Walk` with `Fair`.
 -- Assumes nothing.
-use mathlib.Core.Path.{_≡_, refl, sym, ap, _∙_}
-use mathlib.Core.Logic.{⊎-elim}
-use Prim.Native.Nat.{_-_, _≤_}
+use mathlib.Core.Path.{sym}
+use Prim.Native.Nat.{ℕ, _+_, _*_, _-_, _≤_, _<_}
 use native.Mathlib.Omega.{arith}
-use lib.ListN.{length, set}
-use lib.Seq.{set-out}
+use lib.ListN.{length}
+use mir.Syntax.{w32, w64}
+use mir.Val.{Fits}
 use borrow.Author.Needs.{needs}
-use Rattle.paging.specs.Walk.{wordOf}
-use Rattle.held.specs.Placing.{putCount}
-use Rattle.held.proofs.Placing.{count-stays, count-grows}
-use Rattle.minimum.proofs.Serving.{put-fits}
-use Rattle.minimum.proofs.Running.{Running, running-starts, running-steps, running-ends}
+use Rattle.paging.specs.Calls.{frameLimit, requestLimit}
+use Rattle.paging.specs.declared.Rule.the-variants.{Min}
+use Rattle.paging.proofs.Writing.{fault-most}
+use Rattle.walks.proofs.Walking.{seat-fits, seat-low, Walk, walk-starts, walk-steps, walk-few, walk-ends}
+use Rattle.minimum.specs.Devices.Turns.{Fair}
+use Rattle.minimum.proofs.Serving.{fair-starts, fair-after}
 use Rattle.minimum.proofs.walked.Statement.{statement}
 use Rattle.minimum.proofs.walked.Tie as tie
 
 abbrev Inv-loop : tie.InvT-loop
 Inv-loop n trace words₀ pages₀ counts₀ hints₀ turns₀ held₀ faults₀ i₀ words pages counts hints turns held faults i =
-    (1 ≤ n) × (n ≤ 256) × (length trace ≤ 8000) × Running n trace words₀ words held pages counts hints turns faults i
+    Walk Min n trace words₀ words held pages counts hints faults i × Fair n trace i held pages counts hints turns
 
 abbrev μ-loop : tie.MeasureT-loop
 μ-loop n trace words₀ pages₀ counts₀ hints₀ turns₀ held₀ faults₀ i₀ words pages counts hints turns held faults i =
     length trace - i
 
--- what the loop held before a request
-abbrev loop-of : tie.After-frame-for Inv-loop μ-loop → tie.At-loop Inv-loop μ-loop
-loop-of a = a .before .before .before .before .before .before .before
+-- the steps of a request, back from the last, and what the call began with
+abbrev next-of : tie.After-told Inv-loop μ-loop → tie.After-next-request Inv-loop μ-loop
+next-of c = c .before .before .before
+
+abbrev put-of : tie.After-next-request Inv-loop μ-loop → tie.After-put Inv-loop μ-loop
+put-of c = c .before .before .before .before
+
+abbrev frame-of : tie.After-put Inv-loop μ-loop → tie.After-frame-for Inv-loop μ-loop
+frame-of c = c .before .before .before .before
+
+abbrev request-of : tie.After-frame-for Inv-loop μ-loop → tie.In-loop Inv-loop μ-loop
+request-of c = c .before .before .before .before .before .before
+
+abbrev call-of : tie.In-loop Inv-loop μ-loop → tie.Start Inv-loop μ-loop
+call-of c = c .before .before .before .before
+
+-- what the request began with
+abbrev began-of : tie.After-told Inv-loop μ-loop → tie.In-loop Inv-loop μ-loop
+began-of c = request-of (frame-of (put-of (next-of c)))
+
+-- ---- numbers, over variables: `omega` then reads no steps
+
+less : (i k : ℕ) → i < k → k - (i + 1) < k - i
+less i k h = omega arith
+
+moment-fits : (i k : ℕ) → i < k → k ≤ requestLimit → Fits w64 (i + 1)
+moment-fits i k h l = omega arith
+
+faults-fit : (f i k a : ℕ) → f ≤ i → i < k → k ≤ requestLimit → a ≤ 1 → Fits w32 (f + a)
+faults-fit f i k a g h l m = omega arith
+
+frame-fits : (f n : ℕ) → f < n → n ≤ frameLimit → (f < frameLimit) × Fits w64 f × Fits w64 (f * 4)
+frame-fits f n h l = (omega arith, omega arith, omega arith)
+
+-- of the frame that is chosen
+small : (a : tie.After-frame-for Inv-loop μ-loop) → (a .frame-for .result .0 < frameLimit) × Fits w64 (a .frame-for .result .0) × Fits w64 (a .frame-for .result .0 * 4)
+small a =
+    let r = request-of a in
+    let s = call-of r in
+    frame-fits _ _ (seat-low Min _ _ _ _ _ _ _ (r .before .loop .inv .1 .tied) (s .pre .0) _ (a .frame-for .ensures)) (s .pre .1)
 
 loop-holds : tie.Need-loop-holds Inv-loop μ-loop
 loop-holds c =
     let s = c .before .before in
-    (s .pre .0, s .pre .1, s .pre .2, running-starts (s .args .n) (s .args .trace .now) (s .args .words .now))
+    (walk-starts Min (s .args .n) (s .args .trace .now) (s .args .words .now), fair-starts (s .args .n) (s .args .trace .now))
 
 mul-turns : tie.Need-mul-turns Inv-loop μ-loop
 mul-turns c = search needs
@@ -39,105 +77,88 @@ shared-slice-read-turns : tie.Need-shared-slice-read-turns Inv-loop μ-loop
 shared-slice-read-turns c = search needs
 
 slice-aggregate-frame-for : tie.Need-slice-aggregate-frame-for Inv-loop μ-loop
-slice-aggregate-frame-for c = sym (c .before .before .before .loop .inv .3 .fair .index .room)
+slice-aggregate-frame-for c = sym (c .before .before .before .loop .inv .1 .tied .index .room)
 
 slice-aggregate-frame-for-2 : tie.Need-slice-aggregate-frame-for-2 Inv-loop μ-loop
-slice-aggregate-frame-for-2 c = sym (c .before .before .before .before .loop .inv .3 .fair .index .buckets)
+slice-aggregate-frame-for-2 c = sym (c .before .before .before .before .loop .inv .1 .tied .index .buckets)
 
 slice-aggregate-frame-for-3 : tie.Need-slice-aggregate-frame-for-3 Inv-loop μ-loop
-slice-aggregate-frame-for-3 c = sym (c .before .before .before .before .before .loop .inv .3 .fair .index .guesses)
+slice-aggregate-frame-for-3 c = sym (c .before .before .before .before .before .loop .inv .1 .tied .index .guesses)
 
 slice-aggregate-frame-for-4 : tie.Need-slice-aggregate-frame-for-4 Inv-loop μ-loop
-slice-aggregate-frame-for-4 c = sym (c .before .before .before .before .before .before .loop .inv .3 .fair .deep)
+slice-aggregate-frame-for-4 c = sym (c .before .before .before .before .before .before .loop .inv .1 .deep)
 
 frame-for-requires : tie.Need-frame-for-requires Inv-loop μ-loop
 frame-for-requires c κs =
-    let loop = c .before .before .before .before .before .before .loop in
-    (loop .inv .3 .fair, loop .inv .0, c .before .before .before .before .before .loop-test .taken)
+    let r = c .before .before .before .before .before in
+    (r .before .loop .inv .1, call-of r .pre .0, r .loop-test .taken)
 
 slice-aggregate-put : tie.Need-slice-aggregate-put Inv-loop μ-loop
-slice-aggregate-put c = sym (c .before .before .before .before .before .before .before .before .loop .inv .3 .fair .index .room)
+slice-aggregate-put c = sym (request-of (c .before) .before .loop .inv .1 .tied .index .room)
 
 slice-aggregate-put-2 : tie.Need-slice-aggregate-put-2 Inv-loop μ-loop
-slice-aggregate-put-2 c = sym (c .before .before .before .before .before .before .before .before .before .loop .inv .3 .fair .index .buckets)
+slice-aggregate-put-2 c = sym (request-of (c .before .before) .before .loop .inv .1 .tied .index .buckets)
 
 slice-aggregate-put-3 : tie.Need-slice-aggregate-put-3 Inv-loop μ-loop
-slice-aggregate-put-3 c = sym (c .before .before .before .before .before .before .before .before .before .before .loop .inv .3 .fair .index .guesses)
+slice-aggregate-put-3 c = sym (request-of (c .before .before .before) .before .loop .inv .1 .tied .index .guesses)
 
 put-requires : tie.Need-put-requires Inv-loop μ-loop
 put-requires c κs =
     let a = c .before .before .before in
-    let loop = loop-of a .loop in
-    let below = a .frame-for .ensures .0 in
-    let fits = put-fits _ _ _ _ _ _ _ _ (loop .inv .3 .fair) (a .before .before .before .before .before .before .loop-test .taken) _ below (a .frame-for .ensures .1) in
-    (loop .inv .3 .fair .index, fits .0, omega (arith, below, loop .inv .1), fits .1)
-
-cast-at : tie.Need-cast-at Inv-loop μ-loop
-cast-at c = let a = c .before .before .before .before .before .before .before .before in omega (arith, a .frame-for .ensures .0, loop-of a .loop .inv .1)
+    let r = request-of a in
+    let tied = r .before .loop .inv .1 .tied in
+    let (most, fits) = seat-fits Min _ _ _ _ _ _ _ tied (call-of r .pre .0) _ (a .frame-for .ensures) in
+    (tied .index, most, small a .0, fits)
 
 next-request-requires : tie.Need-next-request-requires Inv-loop μ-loop
-next-request-requires c κs = search needs
+next-request-requires c κs =
+    let r = request-of (frame-of (c .before .before .before)) in
+    (r .loop-test .taken, call-of r .pre .2)
+
+cast-turns : tie.Need-cast-turns Inv-loop μ-loop
+cast-turns c = small (frame-of (put-of (c .before))) .1
 
 mul-turns-2 : tie.Need-mul-turns-2 Inv-loop μ-loop
-mul-turns-2 c = search needs
+mul-turns-2 c = small (frame-of (put-of (c .before))) .2
 
 array-write-turns : tie.Need-array-write-turns Inv-loop μ-loop
-array-write-turns c =
-    let a = c .before .before .before .before .before .before .before .before .before in
-    omega (arith, a .frame-for .ensures .0, loop-of a .loop .inv .1, loop-of a .loop .inv .3 .fair .deep)
+array-write-turns c = small (frame-of (put-of (c .before))) .0
 
-fault-requires : tie.Need-fault-requires Inv-loop μ-loop
-fault-requires c κs = search needs
+told-requires : tie.Need-told-requires Inv-loop μ-loop
+told-requires c κs = tt
 
 add-faults : tie.Need-add-faults Inv-loop μ-loop
 add-faults c =
-    let put = c .before .before .before .before .before .before in
-    let a = put .before .before .before .before in
-    let loop = loop-of a .loop in
-    let next = running-steps _ _ _ (loop .words) _ _ _ _ _ (loop .faults) (loop .i) (loop .inv .3) (a .before .before .before .before .before .before .loop-test .taken) _ (a .frame-for .ensures .0) (a .frame-for .ensures .1) _ (put .put .ensures .0) _ _ _ (put .put .ensures .1 .0) (put .put .ensures .1 .1) _ refl _ refl _ refl _ (c .fault .ensures) in
-    omega (arith, next .reading .few, next .passed, loop .inv .2)
+    let told = c .before .before in
+    let r = began-of told in
+    faults-fit _ _ _ _ (walk-few Min _ _ _ _ _ _ _ _ _ _ (r .before .loop .inv .0)) (r .loop-test .taken) (call-of r .pre .2)
+    (rw (told .told .ensures .0) (fault-most (put-of (next-of told) .put .result)))
 
-word-requires : tie.Need-word-requires Inv-loop μ-loop
-word-requires c κs = search needs
-
-mul-words : tie.Need-mul-words Inv-loop μ-loop
-mul-words c = search needs
-
-slice-write-words : tie.Need-slice-write-words Inv-loop μ-loop
-slice-write-words c = search needs
-
-add-held : tie.Need-add-held Inv-loop μ-loop
-add-held c =
-    let loop = loop-of (c .before .before .before .before .before .before .before .before .before .before .before .before) .loop in
-    omega (arith, loop .inv .1, loop .inv .3 .fair .few)
+count-after-requires : tie.Need-count-after-requires Inv-loop μ-loop
+count-after-requires c κs = search needs
 
 add-i : tie.Need-add-i Inv-loop μ-loop
-add-i c = search needs
+add-i c = let r = began-of (c .before .before .before) in moment-fits _ _ (r .loop-test .taken) (call-of r .pre .2)
 
 loop-less : tie.Need-loop-less Inv-loop μ-loop
-loop-less c = search needs
+loop-less c = less _ _ (began-of (c .before .before .before) .loop-test .taken)
 
 loop-again : tie.Need-loop-again Inv-loop μ-loop
 loop-again c =
-    let put = c .before .before .before .before .before .before .before .before in
-    let a = put .before .before .before .before in
-    let frame = a .frame-for .result .0 in
-    let loop = loop-of a .loop in
-    let words : c .before .if1 .words ≡ set (loop .words) (loop .i) (wordOf (put .put .result)) =
-    ⊎-elim (λ w. w .2 ∙ ap (set (loop .words) (loop .i)) (w .1 .ensures)) (λ w. w .1 ∙ sym (set-out (loop .words) (loop .i) _ (w .0 .left))) (c .before .if1 .came) in
-    let held : c .if2 .held ≡ putCount frame (loop .held) =
-    ⊎-elim (λ w. w .1 ∙ sym (count-grows frame (loop .held) (w .0 .taken))) (λ w. w .1 ∙ sym (count-stays frame (loop .held) (w .0 .left))) (c .if2 .came) in (
-      loop .inv .0,
-      loop .inv .1,
-      loop .inv .2,
-      running-steps _ _ _ (loop .words) _ _ _ _ _ (loop .faults) (loop .i) (loop .inv .3) (a .before .before .before .before .before .before .loop-test .taken) _ (a .frame-for .ensures .0) (a .frame-for .ensures .1) _ (put .put .ensures .0) _ _ _ (put .put .ensures .1 .0) (put .put .ensures .1 .1) _ words _ held _ (c .before .before .before .next-request .ensures) _ (c .before .before .fault .ensures),
-    )
+    let told = c .before .before .before in
+    let put = put-of (next-of told) in
+    let a = frame-of put in
+    let r = request-of a in
+    let loop = r .before .loop in
+    let some = call-of r .pre .0 in
+    let walk = walk-steps Min _ _ _ (loop .words) _ _ _ _ (loop .faults) (loop .i) (loop .inv .0) some (r .loop-test .taken) _ (a .frame-for .ensures) _ (put .put .ensures .0) _ _ _ (put .put .ensures .1 .0) (put .put .ensures .1 .1) _ (told .told .ensures .1) _ (told .told .ensures .0) _ (c .count-after .ensures) in
+    (walk, fair-after _ _ _ _ _ _ _ _ (loop .inv .1) (r .loop-test .taken) some _ (a .frame-for .ensures) _ _ _ _ (walk .tied) _ (next-of told .next-request .ensures))
 
 same-length : tie.Need-same-length Inv-loop μ-loop
-same-length c = c .before .loop .inv .3 .reading .same-length
+same-length c = c .before .loop .inv .0 .running .reading .same-length
 
 returns : tie.Need-returns Inv-loop μ-loop
-returns c = let loop = c .before .loop in running-ends _ _ _ (loop .words) _ _ _ _ _ (loop .faults) (loop .i) (loop .inv .3) (c .loop-test .left)
+returns c = let loop = c .before .loop in walk-ends Min _ _ _ (loop .words) _ _ _ _ (loop .faults) (loop .i) (loop .inv .0) (c .loop-test .left)
 
 pub walked-spec : {M : Type 1} → statement M
 walked-spec =
@@ -157,16 +178,13 @@ walked-spec =
     slice-aggregate-put-2
     slice-aggregate-put-3
     put-requires
-    cast-at
     next-request-requires
+    cast-turns
     mul-turns-2
     array-write-turns
-    fault-requires
+    told-requires
     add-faults
-    word-requires
-    mul-words
-    slice-write-words
-    add-held
+    count-after-requires
     add-i
     loop-less
     loop-again

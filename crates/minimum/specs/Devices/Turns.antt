@@ -6,11 +6,13 @@ use mathlib.Core.List.{List}
 use mathlib.Core.Bool.{Bool, true, false}
 use Prim.Native.Nat.{ℕ, _+_, _≤_, _<_}
 use lib.Dec.{ltb}
-use lib.ListN.{length, getD, take, drop}
+use lib.ListN.{length, getD, drop}
 use Rattle.paging.specs.Lists.{pick}
 use Rattle.paging.specs.Rules.{nextOf}
+use Rattle.paging.specs.Walk.{entryAt, entriesAt}
 use Rattle.paging.specs.Calls.{frameLimit}
-use Rattle.held.specs.Index.{Indexed}
+use Rattle.paging.specs.declared.Rule.the-variants.{Min}
+use Rattle.walks.specs.Tied.{Tied}
 
 -- the moment of page p's next request from moment t on
 abbrev pub turnOf : List ℕ → ℕ → ℕ → ℕ
@@ -24,9 +26,8 @@ goesBefore turn page other rival = pick (ltb other turn) true (pick (ltb turn ot
 abbrev pub Behind : List ℕ → List ℕ → ℕ → ℕ → Type 0
 Behind pages turns j f = (getD turns j 0 < getD turns f 0) ⊎ ((getD turns j 0 ≡ getD turns f 0) × (getD pages f 0 ≤ getD pages j 0))
 
--- just before moment t: at most n pages, indexed, each beside its turn
+-- just before moment t: the definition's pages, with their index, each beside its turn
 pub record Fair (n : ℕ) (trace : List ℕ) (t held : ℕ) (pages counts hints turns : List ℕ) : Type 0 where
-  pub index : Indexed held pages counts hints
+  pub tied : Tied Min n trace t held pages counts hints
   pub deep : length turns ≡ frameLimit
-  pub few : held ≤ n
-  pub in-turn : (i : ℕ) → i < held → getD turns i 0 ≡ turnOf trace t (getD (take held pages) i 0)
+  pub in-turn : (i : ℕ) → i < length (entriesAt Min n trace t) → getD turns i 0 ≡ turnOf trace t (entryAt (entriesAt Min n trace t) i .page .0)
