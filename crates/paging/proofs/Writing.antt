@@ -55,7 +55,7 @@ pub record Reading (whole left : List Outcome) (words₀ words : List ℕ) (f i 
   pub front : take i words ++ take (length words - i) (planIn left) ≡ take (length words) (planIn whole)
   pub back : drop i words ≡ drop i words₀
 
-pub reading-starts : (whole : List Outcome) (words : List ℕ) → Reading whole whole words words 0 0
+reading-starts : (whole : List Outcome) (words : List ℕ) → Reading whole whole words words 0 0
 reading-starts whole words =
     let e : length words - 0 ≡ length words = omega arith in
     record { few = omega arith; counted = omega arith; same-length = refl; front = ap (λ (k : ℕ). take k (planIn whole)) e; back = refl }
@@ -79,7 +79,7 @@ module _ (whole : List Outcome) (o : Outcome) (left : List Outcome) (words₀ wo
           let b : length words - suc i ≡ 0 = omega arith in
           rw (a, b, set-out words i (wordOf o) h, take-all i words h, take-all (suc i) words (let k : length words ≤ suc i = omega arith in k))
 
-  pub reading-steps : Reading whole left words₀ (set words i (wordOf o)) (f + faultOf o) (i + 1)
+  reading-steps : Reading whole left words₀ (set words i (wordOf o)) (f + faultOf o) (i + 1)
   unfolding faultsIn planIn
   reading-steps =
       record {
@@ -94,7 +94,7 @@ module _ (whole : List Outcome) (o : Outcome) (left : List Outcome) (words₀ wo
             ∙ drop-drop 1 i words₀;
       }
 
-pub reading-ends : (whole : List Outcome) (words₀ words : List ℕ) (f i : ℕ) → Reading whole [] words₀ words f i → i ≡ length whole
+reading-ends : (whole : List Outcome) (words₀ words : List ℕ) (f i : ℕ) → Reading whole [] words₀ words f i → i ≡ length whole
     → (f ≡ faultsIn whole) × (words ≡ laid (planIn whole) words₀)
 unfolding faultsIn planIn
 reading-ends whole words₀ words f i r e =
