@@ -25,7 +25,7 @@ fn compare_count(tally: &mut Tally, rule: u32, n: u32, trace: &[u32]) {
     });
 }
 
-fn compare_plan(tally: &mut Tally, rule: u32, n: u32, trace: &[u32], room: &[u32]) {
+pub fn compare_plan(tally: &mut Tally, rule: u32, n: u32, trace: &[u32], room: &[u32]) {
     let mut our_words = room.to_vec();
     let ours = second::write_plan(rule, n, trace, &mut our_words);
     let ours = [ours.number, ours.place, ours.faults];

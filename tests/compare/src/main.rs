@@ -15,10 +15,13 @@ mod map_cases;
 mod mirror;
 #[cfg(feature = "self-check")]
 mod mirror_frames;
+#[cfg(feature = "self-check")]
+mod mirror_walks;
 #[cfg(feature = "records")]
 mod record_cases;
 #[cfg(feature = "records")]
 mod records;
+mod walks;
 
 use lent::Tally;
 use std::io::Write;
@@ -35,6 +38,7 @@ const GROUPS: &[Group] = &[
     ("check", calls::checks),
     ("better", calls::betters),
     ("shared hash", calls::shared_hashes),
+    ("walk", walks::walks),
     ("longest", calls::longest),
     ("largest", calls::largest),
     #[cfg(feature = "records")]

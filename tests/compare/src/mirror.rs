@@ -1,7 +1,9 @@
 //! The second program behind the same C functions, so that the comparison can try itself.
-//! It can be told to make one mistake; the comparison must then find it. Frame has a file of its own.
+//! It can be told to make one mistake; the comparison must then find it. Frame has a file of its own,
+//! and so have the mistakes in a walk over a whole trace.
 
 use crate::map_cases::{flipped, has, Map};
+use crate::mirror_walks::wrongly_walked;
 use second::{lowest, ones, Outcome, Record, Reply, MARK, RECORD_WORDS};
 use std::slice::{from_raw_parts, from_raw_parts_mut};
 use std::sync::atomic::{AtomicU32, Ordering};
@@ -15,7 +17,7 @@ pub fn mistake(number: u32) -> bool {
 
 /// Each mistake, the group of cases that must find it, and what it is.
 #[cfg(test)]
-pub const MISTAKES: [(u32, &str, &str); 80] = [
+pub const MISTAKES: [(u32, &str, &str); 87] = [
     (1, "count", "a hit renews a page in FIFO"),
     (2, "plan", "MIN drops the highest of the dead pages"),
     (3, "plan", "the word after the plan is written"),
@@ -208,6 +210,25 @@ pub const MISTAKES: [(u32, &str, &str); 80] = [
         "shared hash",
         "in MIN a page is taken for another with its hash",
     ),
+    (
+        81,
+        "walk",
+        "LRU doesn't note a page's last request on a hit",
+    ),
+    (82, "walk", "LRU-2 passes over pages requested once"),
+    (83, "walk", "FIFO goes on from the last frame to the second"),
+    (
+        84,
+        "walk",
+        "a plan has the page that comes, not the one that goes",
+    ),
+    (
+        85,
+        "walk",
+        "in a plan of LRU, FIFO or LRU-2 a page is taken for another with its hash",
+    ),
+    (86, "walk", "LRU's hand stops after 4,095 moments"),
+    (87, "walk", "LRU finds page 0 in a frame beyond the cache"),
 ];
 
 pub unsafe fn list<'a, T>(start: *const T, length: usize) -> &'a [T] {
@@ -292,6 +313,9 @@ fn count_reply(rule: u32, n: u32, requests: &[u32]) -> Reply {
     if mistake(34) && rule == second::LRU_2 && reply.number == 0 {
         reply.faults = faults_with_long_memory(n, requests);
     }
+    if reply.number == 0 {
+        reply.faults = wrongly_walked(rule, n, requests).map_or(reply.faults, |walked| walked.1);
+    }
     reply
 }
 
@@ -343,8 +367,22 @@ unsafe extern "C" fn hedravos_plan(
             }
         }
     }
-    if mistake(80) && rule == second::MIN && reply.number == 0 {
+    let planted = if rule == second::MIN { 80 } else { 85 };
+    if mistake(planted) && reply.number == 0 {
         reply = second::count(rule, n, &hashed(requests));
+    }
+    if reply.number == 0 {
+        if let Some((plan, faults)) = wrongly_walked(rule, n, requests) {
+            room[..trace_len].copy_from_slice(&plan);
+            reply.faults = faults;
+        }
+    }
+    if mistake(84) && reply.number == 0 {
+        for (word, &page) in room.iter_mut().zip(requests) {
+            if *word != MARK {
+                *word = page;
+            }
+        }
     }
     if mistake(3) && reply.number == 0 && words_len > trace_len {
         room[trace_len] = MARK;
