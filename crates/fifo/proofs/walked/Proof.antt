@@ -2,13 +2,13 @@
 -- Assumes nothing.
 use mathlib.Core.Path.{_≡_, refl, sym, ap, _∙_}
 use Prim.Native.Nat.{_-_, _<_}
-use native.Mathlib.Omega.{arith}
 use borrow.Author.Needs.{needs}
 use lib.ListN.{length}
 use Rattle.paging.specs.Walk.{faultOf, entriesAt}
 use Rattle.paging.specs.declared.Rule.the-variants.{Fifo}
 use Rattle.paging.proofs.Frames.{held-at-most}
 use Rattle.walks.specs.Tied.{seatAt}
+use Rattle.walks.proofs.Numbers.{less, in-time, next-fits, faults-fit, low-frame, frame-word}
 use Rattle.walks.proofs.Walking.{Walk, walk-starts, walk-told, walk-steps, walk-few, walk-ends, put-most, few, seat-is, goes-in, seat-way}
 use Rattle.fifo.proofs.Round.{Round, round-starts, round-knows, round-steps}
 use Rattle.fifo.proofs.walked.Statement.{statement}
@@ -35,7 +35,7 @@ seat a =
     a .serve .ensures .0 ∙ seat-is Fifo _ _ _ _ _ _ _ (inv .0 .tied) _ (round-knows _ _ _ _ _ _ _ _ (inv .0 .tied) (inv .1))
 
 early : (l : tie.In-loop Inv-loop μ-loop) → l .before .loop .i < 8000
-early l = omega (arith, l .loop-test .taken, call-of (l .before) .pre .2)
+early l = in-time _ _ (l .loop-test .taken) (call-of (l .before) .pre .2)
 
 loop-holds : tie.Need-loop-holds Inv-loop μ-loop
 unfolding entriesAt
@@ -48,7 +48,7 @@ shared-slice-read-t17 : tie.Need-shared-slice-read-t17 Inv-loop μ-loop
 shared-slice-read-t17 c = search needs
 
 cast-t17 : tie.Need-cast-t17 Inv-loop μ-loop
-cast-t17 c = let l = c .before .before in omega (arith, l .loop .inv .1 .within, call-of l .pre .1)
+cast-t17 c = let l = c .before .before in frame-word _ (low-frame _ _ (l .loop .inv .1 .within) (call-of l .pre .1))
 
 slice-aggregate-serve : tie.Need-slice-aggregate-serve Inv-loop μ-loop
 slice-aggregate-serve c = sym (c .before .before .before .loop .inv .0 .tied .index .room)
@@ -73,13 +73,13 @@ add-faults : tie.Need-add-faults Inv-loop μ-loop
 add-faults c =
     let a = c .before .before .before .before .before .before .before in
     let l = loop-of a in
-    omega (arith, put-most _ _ _ _ (a .serve .ensures .1 .1 .0), walk-few _ _ _ _ _ _ _ _ _ _ _ (l .loop .inv .0), early (a .before .before .before .before .before .before))
+    faults-fit _ _ _ (walk-few _ _ _ _ _ _ _ _ _ _ _ (l .loop .inv .0)) (early (a .before .before .before .before .before .before)) (put-most _ _ _ _ (a .serve .ensures .1 .1 .0))
 
 add-i : tie.Need-add-i Inv-loop μ-loop
-add-i c = omega (arith, early (c .before .before .before .before .before .before .before .before .before .before .before .before .before))
+add-i c = next-fits _ (early (c .before .before .before .before .before .before .before .before .before .before .before .before .before))
 
 loop-less : tie.Need-loop-less Inv-loop μ-loop
-loop-less c = omega (arith, c .before .before .before .before .before .before .before .before .before .before .before .before .before .loop-test .taken)
+loop-less c = less _ _ (c .before .before .before .before .before .before .before .before .before .before .before .before .before .loop-test .taken)
 
 loop-again : tie.Need-loop-again Inv-loop μ-loop
 loop-again c =

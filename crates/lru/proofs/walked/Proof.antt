@@ -2,13 +2,13 @@
 -- Assumes nothing.
 use mathlib.Core.Path.{_≡_, refl, sym, _∙_}
 use Prim.Native.Nat.{_-_, _<_}
-use native.Mathlib.Omega.{arith}
 use borrow.Author.Needs.{needs}
 use lib.ListN.{length}
 use Rattle.paging.specs.Walk.{entriesAt}
 use Rattle.paging.specs.declared.Rule.the-variants.{Lru}
 use Rattle.walks.specs.Tied.{seatAt}
 use Rattle.walks.proofs.Hands.{Stopped}
+use Rattle.walks.proofs.Numbers.{less, in-time, no-later, next-fits, moment-fits, faults-fit, low-frame, frame-byte, frame-word, frame-index, frame-short}
 use Rattle.walks.proofs.Walking.{Walk, walk-starts, walk-steps, walk-few, walk-ends, put-most, few, seat-is, goes-in, seat-low, seat-serves}
 use Rattle.lru.proofs.Lasts.{Lasts, lasts-start, lasts-stop, lasts-move, lasts-know, lasts-step}
 use Rattle.lru.proofs.walked.Statement.{statement}
@@ -36,7 +36,7 @@ abbrev more : (h : tie.After-onward Inv-loop μ-loop) → loop-of h .loop .i < l
 more h = h .before .before .before .before .before .loop-test .taken
 
 early : (h : tie.After-onward Inv-loop μ-loop) → loop-of h .loop .i < 8000
-early h = omega (arith, more h, call-of (loop-of h) .pre .2)
+early h = in-time _ _ (more h) (call-of (loop-of h) .pre .2)
 
 -- where the hand stops
 stop : (h : tie.After-onward Inv-loop μ-loop)
@@ -53,7 +53,7 @@ seat a =
 
 low : (a : tie.After-serve Inv-loop μ-loop) → a .serve .result .frame .0 < 256
 low a =
-    let l = loop-of (hand-of a) in omega (arith, seat-low _ _ _ _ _ _ _ _ (l .loop .inv .0 .tied) (call-of l .pre .0) _ (seat a), call-of l .pre .1)
+    let l = loop-of (hand-of a) in low-frame _ _ (seat-low _ _ _ _ _ _ _ _ (l .loop .inv .0 .tied) (call-of l .pre .0) _ (seat a)) (call-of l .pre .1)
 
 loop-holds : tie.Need-loop-holds Inv-loop μ-loop
 unfolding entriesAt
@@ -75,14 +75,13 @@ slice-aggregate-onward-3 : tie.Need-slice-aggregate-onward-3 Inv-loop μ-loop
 slice-aggregate-onward-3 c = sym (c .before .before .before .before .before .loop .inv .1 .frames)
 
 onward-requires : tie.Need-onward-requires Inv-loop μ-loop
-onward-requires c κs = search needs
+onward-requires c κs = tt
 
 array-read-t28 : tie.Need-array-read-t28 Inv-loop μ-loop
-array-read-t28 c = omega (arith, stop c .inside, early c, loop-of c .loop .inv .1 .moments)
+array-read-t28 c = no-later _ _ (stop c .inside) (early c)
 
 cast-t19 : tie.Need-cast-t19 Inv-loop μ-loop
-cast-t19 c =
-    let k : c .onward .result < 8000 = omega (arith, stop c .inside, early c) in omega (arith, loop-of c .loop .inv .1 .bytes (c .onward .result) k)
+cast-t19 c = frame-word _ (loop-of c .loop .inv .1 .bytes _ (no-later _ _ (stop c .inside) (early c)))
 
 slice-aggregate-serve : tie.Need-slice-aggregate-serve Inv-loop μ-loop
 slice-aggregate-serve c = sym (loop-of (c .before) .loop .inv .0 .tied .index .room)
@@ -102,34 +101,34 @@ serve-requires c κs =
     (x .index, few _ _ _ _ _ _ _ _ x, s .pre .1, goes-in Lru _ _ _ _ _ _ _ x (s .pre .0) _ (lasts-know _ _ _ _ _ _ _ _ _ _ (l .loop .inv .0 .tied) (l .loop .inv .1) (call-of l .pre .0) _ (stop h)))
 
 cast-last : tie.Need-cast-last Inv-loop μ-loop
-cast-last c = omega (arith, early (hand-of (c .before .before .before .before .before)))
+cast-last c = moment-fits _ (early (hand-of (c .before .before .before .before .before)))
 
 cast-last-2 : tie.Need-cast-last-2 Inv-loop μ-loop
-cast-last-2 c = omega (arith, low (c .before .before .before .before .before .before))
+cast-last-2 c = frame-index _ (low (c .before .before .before .before .before .before))
 
 mul-last : tie.Need-mul-last Inv-loop μ-loop
-mul-last c = omega (arith, low (c .before .before .before .before .before .before))
+mul-last c = frame-short _ (low (c .before .before .before .before .before .before))
 
 array-write-last : tie.Need-array-write-last Inv-loop μ-loop
-array-write-last c = omega (arith, low (c .before .before .before .before .before .before), loop-of (hand-of (c .before .before .before .before .before .before)) .loop .inv .1 .frames)
+array-write-last c = low (c .before .before .before .before .before .before)
 
 cast-served : tie.Need-cast-served Inv-loop μ-loop
-cast-served c = omega (arith, low (c .before .before .before .before .before .before .before))
+cast-served c = frame-byte _ (low (c .before .before .before .before .before .before .before))
 
 array-write-served : tie.Need-array-write-served Inv-loop μ-loop
-array-write-served c = let h = hand-of (c .before .before .before .before .before .before .before) in omega (arith, early h, loop-of h .loop .inv .1 .moments)
+array-write-served c = early (hand-of (c .before .before .before .before .before .before .before))
 
 add-faults : tie.Need-add-faults Inv-loop μ-loop
 add-faults c =
     let a = c .before .before .before .before .before .before .before .before in
     let h = hand-of a in
-    omega (arith, put-most _ _ _ _ (a .serve .ensures .1 .1 .0), walk-few _ _ _ _ _ _ _ _ _ _ _ (loop-of h .loop .inv .0), early h)
+    faults-fit _ _ _ (walk-few _ _ _ _ _ _ _ _ _ _ _ (loop-of h .loop .inv .0)) (early h) (put-most _ _ _ _ (a .serve .ensures .1 .1 .0))
 
 add-i : tie.Need-add-i Inv-loop μ-loop
-add-i c = omega (arith, early (hand-of (c .before .before .before .before .before .before .before .before)))
+add-i c = next-fits _ (early (hand-of (c .before .before .before .before .before .before .before .before)))
 
 loop-less : tie.Need-loop-less Inv-loop μ-loop
-loop-less c = omega (arith, more (hand-of (c .before .before .before .before .before .before .before .before)))
+loop-less c = less _ _ (more (hand-of (c .before .before .before .before .before .before .before .before)))
 
 loop-again : tie.Need-loop-again Inv-loop μ-loop
 loop-again c =

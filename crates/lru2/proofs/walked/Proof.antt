@@ -2,13 +2,13 @@
 -- Assumes nothing.
 use mathlib.Core.Path.{_≡_, refl, sym, ap, _∙_}
 use Prim.Native.Nat.{_-_, _≤_, _<_}
-use native.Mathlib.Omega.{arith}
 use borrow.Author.Needs.{needs}
 use lib.ListN.{length}
 use Rattle.paging.specs.Walk.{faultOf, entriesAt}
 use Rattle.paging.specs.declared.Rule.the-variants.{Lru2}
 use Rattle.walks.specs.Tied.{seatAt}
 use Rattle.walks.proofs.Hands.{Stopped}
+use Rattle.walks.proofs.Numbers.{less, in-time, no-later, next-fits, moment-fits, faults-fit, low-frame, frame-byte, frame-word, frame-index, frame-short}
 use Rattle.walks.proofs.Walking.{Walk, walk-starts, walk-told, walk-steps, walk-few, walk-ends, put-most, few, seat-is, goes-in, seat-low, seat-serves}
 use Rattle.lru2.proofs.Twice.{Twice, twice-starts, twice-stops, twice-stops₂, twice-moves, twice-knows, twice-steps, hand-inside}
 use Rattle.lru2.proofs.walked.Statement.{statement}
@@ -39,7 +39,7 @@ abbrev more : (h : tie.After-onward Inv-loop μ-loop) → loop-of h .loop .i < l
 more h = h .before .before .before .before .before .loop-test .taken
 
 early : (h : tie.After-onward Inv-loop μ-loop) → loop-of h .loop .i < 8000
-early h = omega (arith, more h, call-of (loop-of h) .pre .2)
+early h = in-time _ _ (more h) (call-of (loop-of h) .pre .2)
 
 -- where the hands stop
 stop : (h : tie.After-onward Inv-loop μ-loop)
@@ -65,7 +65,7 @@ seat a =
 
 low : (a : tie.After-serve Inv-loop μ-loop) → a .serve .result .frame .0 < 256
 low a =
-    let l = loop-of (first-of (hand-of a)) in omega (arith, seat-low _ _ _ _ _ _ _ _ (l .loop .inv .0 .tied) (call-of l .pre .0) _ (seat a), call-of l .pre .1)
+    let l = loop-of (first-of (hand-of a)) in low-frame _ _ (seat-low _ _ _ _ _ _ _ _ (l .loop .inv .0 .tied) (call-of l .pre .0) _ (seat a)) (call-of l .pre .1)
 
 loop-holds : tie.Need-loop-holds Inv-loop μ-loop
 unfolding entriesAt
@@ -87,7 +87,7 @@ slice-aggregate-onward-3 : tie.Need-slice-aggregate-onward-3 Inv-loop μ-loop
 slice-aggregate-onward-3 c = sym (c .before .before .before .before .before .loop .inv .1 .pasts)
 
 onward-requires : tie.Need-onward-requires Inv-loop μ-loop
-onward-requires c κs = search needs
+onward-requires c κs = tt
 
 slice-aggregate-onward-4 : tie.Need-slice-aggregate-onward-4 Inv-loop μ-loop
 slice-aggregate-onward-4 c = sym (loop-of (c .before) .loop .inv .1 .moments)
@@ -99,18 +99,16 @@ slice-aggregate-onward-6 : tie.Need-slice-aggregate-onward-6 Inv-loop μ-loop
 slice-aggregate-onward-6 c = sym (loop-of (c .before .before .before) .loop .inv .1 .pasts)
 
 onward-requires-2 : tie.Need-onward-requires-2 Inv-loop μ-loop
-onward-requires-2 c κs = search needs
+onward-requires-2 c κs = tt
 
 hand-of-requires : tie.Need-hand-of-requires Inv-loop μ-loop
-hand-of-requires c κs = search needs
+hand-of-requires c κs = tt
 
 array-read-t37 : tie.Need-array-read-t37 Inv-loop μ-loop
-array-read-t37 c = let h = first-of c in omega (arith, inside c, early h, loop-of h .loop .inv .1 .moments)
+array-read-t37 c = no-later _ _ (inside c) (early (first-of c))
 
 cast-t22 : tie.Need-cast-t22 Inv-loop μ-loop
-cast-t22 c =
-    let h = first-of c in
-    let k : c .hand-of .result < 8000 = omega (arith, inside c, early h) in omega (arith, loop-of h .loop .inv .1 .bytes (c .hand-of .result) k)
+cast-t22 c = let h = first-of c in frame-word _ (loop-of h .loop .inv .1 .bytes _ (no-later _ _ (inside c) (early h)))
 
 slice-aggregate-serve : tie.Need-slice-aggregate-serve Inv-loop μ-loop
 slice-aggregate-serve c = sym (loop-of (first-of (c .before)) .loop .inv .0 .tied .index .room)
@@ -130,52 +128,52 @@ serve-requires c κs =
     (x .index, few _ _ _ _ _ _ _ _ x, s .pre .1, goes-in Lru2 _ _ _ _ _ _ _ x (s .pre .0) _ (twice-knows _ _ _ _ _ _ _ _ _ _ _ _ (l .loop .inv .0 .tied) (l .loop .inv .1) (call-of l .pre .0) _ (stop (first-of h)) _ (stop₂ (h .before)) _ (h .hand-of .ensures)))
 
 cast-at : tie.Need-cast-at Inv-loop μ-loop
-cast-at c = omega (arith, low (c .before .before .before .before .before .before))
+cast-at c = frame-index _ (low (c .before .before .before .before .before .before))
 
 mul-earlier-for : tie.Need-mul-earlier-for Inv-loop μ-loop
-mul-earlier-for c = omega (arith, low (c .before .before .before .before .before .before))
+mul-earlier-for c = frame-short _ (low (c .before .before .before .before .before .before))
 
 array-read-earlier-for : tie.Need-array-read-earlier-for Inv-loop μ-loop
-array-read-earlier-for c = omega (arith, low (c .before .before .before .before .before .before), loop-of (first-of (hand-of (c .before .before .before .before .before .before))) .loop .inv .1 .frames)
+array-read-earlier-for c = low (c .before .before .before .before .before .before)
 
 cast-earlier-for : tie.Need-cast-earlier-for Inv-loop μ-loop
-cast-earlier-for c = omega (arith, early (first-of (hand-of (c .before .before .before .before .before .before))))
+cast-earlier-for c = moment-fits _ (early (first-of (hand-of (c .before .before .before .before .before .before))))
 
 earlier-for-requires : tie.Need-earlier-for-requires Inv-loop μ-loop
-earlier-for-requires c κs = search needs
+earlier-for-requires c κs = tt
 
 mul-earlier : tie.Need-mul-earlier Inv-loop μ-loop
-mul-earlier c = omega (arith, low (c .before .before .before .before .before .before .before))
+mul-earlier c = frame-short _ (low (c .before .before .before .before .before .before .before))
 
 array-write-earlier : tie.Need-array-write-earlier Inv-loop μ-loop
-array-write-earlier c = omega (arith, low (c .before .before .before .before .before .before .before), loop-of (first-of (hand-of (c .before .before .before .before .before .before .before))) .loop .inv .1 .pasts)
+array-write-earlier c = low (c .before .before .before .before .before .before .before)
 
 cast-last : tie.Need-cast-last Inv-loop μ-loop
-cast-last c = omega (arith, early (first-of (hand-of (c .before .before .before .before .before .before .before))))
+cast-last c = moment-fits _ (early (first-of (hand-of (c .before .before .before .before .before .before .before))))
 
 mul-last : tie.Need-mul-last Inv-loop μ-loop
-mul-last c = omega (arith, low (c .before .before .before .before .before .before .before))
+mul-last c = frame-short _ (low (c .before .before .before .before .before .before .before))
 
 array-write-last : tie.Need-array-write-last Inv-loop μ-loop
-array-write-last c = omega (arith, low (c .before .before .before .before .before .before .before), loop-of (first-of (hand-of (c .before .before .before .before .before .before .before))) .loop .inv .1 .frames)
+array-write-last c = low (c .before .before .before .before .before .before .before)
 
 cast-served : tie.Need-cast-served Inv-loop μ-loop
-cast-served c = omega (arith, low (c .before .before .before .before .before .before .before))
+cast-served c = frame-byte _ (low (c .before .before .before .before .before .before .before))
 
 array-write-served : tie.Need-array-write-served Inv-loop μ-loop
-array-write-served c = let h = first-of (hand-of (c .before .before .before .before .before .before .before)) in omega (arith, early h, loop-of h .loop .inv .1 .moments)
+array-write-served c = early (first-of (hand-of (c .before .before .before .before .before .before .before)))
 
 add-faults : tie.Need-add-faults Inv-loop μ-loop
 add-faults c =
     let a = c .before .before .before .before .before .before .before .before in
     let h = first-of (hand-of a) in
-    omega (arith, put-most _ _ _ _ (a .serve .ensures .1 .1 .0), walk-few _ _ _ _ _ _ _ _ _ _ _ (loop-of h .loop .inv .0), early h)
+    faults-fit _ _ _ (walk-few _ _ _ _ _ _ _ _ _ _ _ (loop-of h .loop .inv .0)) (early h) (put-most _ _ _ _ (a .serve .ensures .1 .1 .0))
 
 add-i : tie.Need-add-i Inv-loop μ-loop
-add-i c = omega (arith, early (first-of (hand-of (c .before .before .before .before .before .before .before .before))))
+add-i c = next-fits _ (early (first-of (hand-of (c .before .before .before .before .before .before .before .before))))
 
 loop-less : tie.Need-loop-less Inv-loop μ-loop
-loop-less c = omega (arith, more (first-of (hand-of (c .before .before .before .before .before .before .before .before))))
+loop-less c = less _ _ (more (first-of (hand-of (c .before .before .before .before .before .before .before .before))))
 
 loop-again : tie.Need-loop-again Inv-loop μ-loop
 loop-again c =

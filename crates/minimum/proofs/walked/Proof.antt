@@ -1,15 +1,12 @@
 -- `minimum::walked` meets its contract: the loop's invariant is `Walk` with `Fair`.
 -- Assumes nothing.
 use mathlib.Core.Path.{sym}
-use Prim.Native.Nat.{ℕ, _+_, _*_, _-_, _≤_, _<_}
-use native.Mathlib.Omega.{arith}
+use Prim.Native.Nat.{_-_, _<_}
 use lib.ListN.{length}
-use mir.Syntax.{w32, w64}
-use mir.Val.{Fits}
 use borrow.Author.Needs.{needs}
-use Rattle.paging.specs.Calls.{frameLimit, requestLimit}
 use Rattle.paging.specs.declared.Rule.the-variants.{Min}
 use Rattle.paging.proofs.Writing.{fault-most}
+use Rattle.walks.proofs.Numbers.{less, in-time, next-fits, faults-fit, low-frame, frame-index, frame-long}
 use Rattle.walks.proofs.Walking.{seat-fits, seat-low, Walk, walk-starts, walk-steps, walk-few, walk-ends}
 use Rattle.minimum.specs.Devices.Turns.{Fair}
 use Rattle.minimum.proofs.Serving.{fair-starts, fair-after}
@@ -44,26 +41,15 @@ call-of c = c .before .before .before .before
 abbrev began-of : tie.After-told Inv-loop μ-loop → tie.In-loop Inv-loop μ-loop
 began-of c = request-of (frame-of (put-of (next-of c)))
 
--- ---- numbers, over variables: `omega` then reads no steps
-
-less : (i k : ℕ) → i < k → k - (i + 1) < k - i
-less i k h = omega arith
-
-moment-fits : (i k : ℕ) → i < k → k ≤ requestLimit → Fits w64 (i + 1)
-moment-fits i k h l = omega arith
-
-faults-fit : (f i k a : ℕ) → f ≤ i → i < k → k ≤ requestLimit → a ≤ 1 → Fits w32 (f + a)
-faults-fit f i k a g h l m = omega arith
-
-frame-fits : (f n : ℕ) → f < n → n ≤ frameLimit → (f < frameLimit) × Fits w64 f × Fits w64 (f * 4)
-frame-fits f n h l = (omega arith, omega arith, omega arith)
-
 -- of the frame that is chosen
-small : (a : tie.After-frame-for Inv-loop μ-loop) → (a .frame-for .result .0 < frameLimit) × Fits w64 (a .frame-for .result .0) × Fits w64 (a .frame-for .result .0 * 4)
-small a =
+low : (a : tie.After-frame-for Inv-loop μ-loop) → a .frame-for .result .0 < 256
+low a =
     let r = request-of a in
     let s = call-of r in
-    frame-fits _ _ (seat-low Min _ _ _ _ _ _ _ (r .before .loop .inv .1 .tied) (s .pre .0) _ (a .frame-for .ensures)) (s .pre .1)
+    low-frame _ _ (seat-low Min _ _ _ _ _ _ _ (r .before .loop .inv .1 .tied) (s .pre .0) _ (a .frame-for .ensures)) (s .pre .1)
+
+early : (r : tie.In-loop Inv-loop μ-loop) → r .before .loop .i < 8000
+early r = in-time _ _ (r .loop-test .taken) (call-of r .pre .2)
 
 loop-holds : tie.Need-loop-holds Inv-loop μ-loop
 loop-holds c =
@@ -108,7 +94,7 @@ put-requires c κs =
     let r = request-of a in
     let tied = r .before .loop .inv .1 .tied in
     let (most, fits) = seat-fits Min _ _ _ _ _ _ _ tied (call-of r .pre .0) _ (a .frame-for .ensures) in
-    (tied .index, most, small a .0, fits)
+    (tied .index, most, low a, fits)
 
 next-request-requires : tie.Need-next-request-requires Inv-loop μ-loop
 next-request-requires c κs =
@@ -116,13 +102,13 @@ next-request-requires c κs =
     (r .loop-test .taken, call-of r .pre .2)
 
 cast-turns : tie.Need-cast-turns Inv-loop μ-loop
-cast-turns c = small (frame-of (put-of (c .before))) .1
+cast-turns c = frame-index _ (low (frame-of (put-of (c .before))))
 
 mul-turns-2 : tie.Need-mul-turns-2 Inv-loop μ-loop
-mul-turns-2 c = small (frame-of (put-of (c .before))) .2
+mul-turns-2 c = frame-long _ (low (frame-of (put-of (c .before))))
 
 array-write-turns : tie.Need-array-write-turns Inv-loop μ-loop
-array-write-turns c = small (frame-of (put-of (c .before))) .0
+array-write-turns c = low (frame-of (put-of (c .before)))
 
 told-requires : tie.Need-told-requires Inv-loop μ-loop
 told-requires c κs = tt
@@ -131,14 +117,14 @@ add-faults : tie.Need-add-faults Inv-loop μ-loop
 add-faults c =
     let told = c .before .before in
     let r = began-of told in
-    faults-fit _ _ _ _ (walk-few Min _ _ _ _ _ _ _ _ _ _ (r .before .loop .inv .0)) (r .loop-test .taken) (call-of r .pre .2)
+    faults-fit _ _ _ (walk-few Min _ _ _ _ _ _ _ _ _ _ (r .before .loop .inv .0)) (early r)
     (rw (told .told .ensures .0) (fault-most (put-of (next-of told) .put .result)))
 
 count-after-requires : tie.Need-count-after-requires Inv-loop μ-loop
-count-after-requires c κs = search needs
+count-after-requires c κs = tt
 
 add-i : tie.Need-add-i Inv-loop μ-loop
-add-i c = let r = began-of (c .before .before .before) in moment-fits _ _ (r .loop-test .taken) (call-of r .pre .2)
+add-i c = next-fits _ (early (began-of (c .before .before .before)))
 
 loop-less : tie.Need-loop-less Inv-loop μ-loop
 loop-less c = less _ _ (began-of (c .before .before .before) .loop-test .taken)
