@@ -189,15 +189,16 @@ mod tests {
         assert!((20..=180).contains(&sound), "{sound} of 200 sound");
     }
 
+    fn distinct(mut list: Vec<u32>) -> usize {
+        list.sort();
+        list.dedup();
+        list.len()
+    }
+
     /// Other pages at the same moments, of few hashes or with sixteen low bits alike.
     #[test]
     fn crowds_are_what_they_should_be() {
         let mut rng = cases::Rng::new(1);
-        let distinct = |mut list: Vec<u32>| {
-            list.sort();
-            list.dedup();
-            list.len()
-        };
         let mut of_one_hash = 0;
         for _ in 0..200 {
             let before = cases::trace(&mut rng, 60, 9);
@@ -216,6 +217,42 @@ mod tests {
             of_one_hash += u32::from(hashes == 1 && pairs.len() > 1);
         }
         assert!(of_one_hash > 50, "{of_one_hash} of 200");
+    }
+
+    /// The pages of walks differ, the first or the last page is among them, and three kinds are of
+    /// one hash. From LRU-2's cache both pages requested once go and pages requested again.
+    #[test]
+    fn walks_are_what_they_should_be() {
+        for name in walks::NAMES {
+            let pages: Vec<u32> = (0..9_000).map(name).collect();
+            assert!([0, second::MARK - 1].contains(&pages[0]));
+            assert!(!pages.contains(&second::MARK));
+            assert_eq!(distinct(pages), 9_000);
+        }
+        for name in [walks::ZEROS_HASH, walks::LASTS_HASH, walks::LOW_HALVES] {
+            assert_eq!(
+                distinct((0..9_000).map(name).map(mirror::hash).collect()),
+                1
+            );
+        }
+        let low = (0..32).map(|number| walks::LOW_HALVES(number) & 0xFFFF);
+        assert_eq!(distinct(low.collect()), 1);
+        let mut rng = cases::Rng::new(1);
+        for n in [2, 9, 256] {
+            let trace = walks::again(&mut rng, 2_000, n);
+            let mut plan = vec![0; 2_000];
+            second::write_plan(second::LRU_2, n as u32, &trace, &mut plan);
+            let mut requests = vec![0; 2 * n + 3];
+            let mut gone = [0, 0];
+            for (&page, &word) in trace.iter().zip(&plan) {
+                if word != second::MARK {
+                    gone[usize::from(requests[word as usize] > 1)] += 1;
+                    requests[word as usize] = 0;
+                }
+                requests[page as usize] += 1;
+            }
+            assert!(gone.iter().all(|&count| count > 80), "{n}: {gone:?}");
+        }
     }
 
     /// How often a group's questions are answered by a frame, by none, by 4 and by 5; and whether
