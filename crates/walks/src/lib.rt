@@ -51,7 +51,7 @@ fn has(moments: &[u16], frame: usize, moment: usize) -> bool
     false
 }
 
-// The first moment, from the hand on, that both lists have for the frame served then; where there is none before `end`, that.
+// The first moment, from the hand on, that both lists have for the frame served then, or at which none was served; where there is none before `end`, that, or the hand if it is past it.
 pub fn onward(hand: usize, end: usize, served: &[u8], moments: &[u16], others: &[u16]) -> usize
     ensures { λ r. ⌜ r ≡ firstFrom (stops (now (moments .entry)) (now (others .entry)) (now (served .entry))) hand (end - hand) ⌝ }
 {
