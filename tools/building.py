@@ -1,4 +1,4 @@
-"""Building with `rt`, for the commands of this folder: one at a time, only where a source has changed, with progress.
+"""Building with `rt`, for the commands of this folder and bench/library: one at a time, only where a source has changed, with progress.
 
 What is built is noted in target/built/NAME: the state of its sources, that of the files made, and some words, as those
 to run a program by. So what is built runs without `rt`, and commands at the same time don't break each other's work.
@@ -207,7 +207,7 @@ def to_run(rt, program):
     if platform.machine() == "x86_64":
         return [program]
     tools = kit(rt) / "toolchain"
-    # Told to be the plain processor, it copies records fast.
+    # Told to be the plain processor, it copies long arrays fast.
     emulator = [tools / "bin/qemu-x86_64", "-cpu", "qemu64"]
     words = [*emulator, tools / "lib/ld-linux-x86-64.so.2", "--library-path", tools / "lib", program]
     missing = [word for word in words if isinstance(word, pathlib.Path) and not word.exists()]

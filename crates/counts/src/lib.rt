@@ -1,4 +1,4 @@
-// The services Count and Write a plan, for all four rules: each has a crate with its walk over a whole trace.
+// The services Count and Write a plan, for all four rules: each rule has a crate with its walk over a whole trace.
 ghost use mathlib.Core.Path.{_≡_};
 ghost use Rattle.paging.specs.Rules.{ruleNumbered, named};
 ghost use Rattle.paging.specs.Calls.{traceTests, ruleTests};

@@ -24,7 +24,7 @@ use Rattle.fifo.specs.Devices.{nextAfter}
 abbrev Before : ℕ → ℕ → ℕ → Type 0
 Before next i j = ((next ≤ i) × (i < j)) ⊎ ((next ≤ i) × (j < next)) ⊎ ((i < j) × (j < next))
 
--- just before moment t: the frame of the next fault is the next free one; the pages held were loaded in the order of their frames from it on
+-- just before moment t: while there is room the frame of the next fault is the next free one; the pages held were loaded in the order of their frames from it on
 pub record Round (n t next : ℕ) (es : List Entry) : Type 0 where
   pub within : next < n
   pub filling : length es < n → next ≡ length es

@@ -1,5 +1,5 @@
 // LRU over a whole trace: its count and its plan. A hand goes over the moments and stops at the first that is still the last request of the page
-// in the frame served then: that page's last request is earliest. The hand only goes on, so that a request costs it little.
+// in the frame served then: that page's last request is earliest. The hand only goes on: over a whole trace it looks at no more than two moments for each request.
 //
 // A walk owns the held pages with their index (crate `held`), the last moment of each frame and the frame served at each moment, and lends them as slices.
 ghost use mathlib.Core.Path.{_≡_};

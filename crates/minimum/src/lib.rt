@@ -55,7 +55,7 @@ fn latest(held: usize, pages: &[u32], turns: &[u32]) -> Frame
     Frame(best as u32)
 }
 
-// The frame for the page that is requested at moment t: its own, if it is held; the next free one; else that of the page whose turn is latest.
+// The frame for the page that is requested at moment t: its own, if it is held; the next free one, if there is room; else that of the page whose turn is latest.
 fn frame_for(
     n: usize,
     trace: &[u32],

@@ -1,4 +1,5 @@
 -- Each rule has an entry to drop: wherever something is held, some held entry fits the rule's description, so that the frame chosen is in use.
+-- Beside it: an entry whose number is less than every other's is the one that a search for the least finds.
 -- Assumes nothing.
 use mathlib.Core.Path.{_≡_, refl}
 use mathlib.Core.Logic.{_⊎_, ⊎-elim}

@@ -32,7 +32,7 @@ module _ (tests : List Test) (rule : Rule) (n : ℕ) (trace : List ℕ) where
   unfolding written
   written-no words refusal e = ap (λ (g : Gate). leftBy g (plan rule n trace) words) e
 
-  -- so much of a call that asks the chain itself and then walks: what it answers and leaves in the lent words
+  -- the same of a call that asks the chain itself and then walks: what it answers and leaves in the lent words
   pub walk-open : gate tests ≡ Open → (f : ℕ) (words left : List ℕ) → (f ≡ faults rule n trace) × (left ≡ laid (plan rule n trace) words)
       → (Faults f ≡ answered tests rule n trace) × (left ≡ written tests rule n trace words)
   walk-open e f words left (counted, laid-over) = (ap Faults counted ∙ sym (answered-open e), laid-over ∙ sym (written-open words e))

@@ -1,5 +1,5 @@
 // What the service Check answers: the chain of refusals, then the walk of a plan over its trace, with the pages held and their index in arrays of its own.
-// What is wrong with an entry, and else the frame for the requested page, is said by `judge_entry`; the page is put there by `held::put`, as in the walk of MIN.
+// What is wrong with an entry, and else the frame for the requested page, is said by `judge_entry`; the page is put there by `held::put`, as in the walks of the rules.
 ghost use mathlib.Core.Path.{_≡_};
 ghost use Prim.Native.Nat.{_≤_};
 ghost use lib.Dec.{eqb};

@@ -119,7 +119,7 @@ stopped hand end moments others served frames order long same same₂ within at 
 
 -- ---- a hand
 
--- just before moment t: each frame's moment is past, and its frame was served then; no frame of the hand's has a moment before it
+-- just before moment t: each frame's moment is past, and the frame was served then; no frame of the hand's has a moment before it
 pub record Hand (t hand held : ℕ) (moments others served : List ℕ) : Type 0 where
   pub onward : hand ≤ t
   pub past : (f : ℕ) → f < held → getD moments f 0 < t
@@ -145,7 +145,7 @@ module _
     pub hand-stops : (f : ℕ) → f < held → getD moments f 0 ≡ getD others f 0 → at < t
     hand-stops f h e = omega (arith, not-passed f h e, x .past f h)
 
-    -- every other frame of its has a later moment
+    -- every other frame that it is for has a later moment
     pub hand-least : (f : ℕ) → f < held → getD moments f 0 ≡ getD others f 0 → (f ≡ getD served at 0 → ⊥) → at < getD moments f 0
     hand-least f h e d =
         elim (ℕ-discrete at (getD moments f 0)) [

@@ -13,7 +13,7 @@ use Rattle.paging.specs.Lists.{pick, both}
 unfoldable pub has : List ℕ → ℕ → ℕ → Bool
 has moments f k = both (ltb f (length moments)) (eqb (getD moments f 0) k)
 
--- a hand stops at moment k: both lists have it for the frame served then, or none was served
+-- a hand stops at moment k: both lists have it for the frame served then, or the list of frames served ends before it
 unfoldable pub stops : List ℕ → List ℕ → List ℕ → ℕ → Bool
 unfolding has
 stops moments others served k =

@@ -17,7 +17,7 @@ use paging::Frame;
 use paging::Outcome;
 use paging::Page;
 
-// The frame for a page that is requested in n frames: its own, if it is held; the next free one; else that of the page that goes.
+// The frame for a page that is requested in n frames: its own, if it is held; the next free one, if there is room; else that of the page that goes.
 fn frame_for(
     n: usize,
     page: Page,
@@ -51,7 +51,8 @@ fn has(moments: &[u16], frame: usize, moment: usize) -> bool
     false
 }
 
-// The first moment, from the hand on, that both lists have for the frame served then, or at which none was served; where there is none before `end`, that, or the hand if it is past it.
+// The first moment, from the hand on and before `end`, that both lists have for the frame served then, or for which `served` has none.
+// Where there is none such: `end`, or the hand if it is past that.
 pub fn onward(hand: usize, end: usize, served: &[u8], moments: &[u16], others: &[u16]) -> usize
     ensures { λ r. ⌜ r ≡ firstFrom (stops (now (moments .entry)) (now (others .entry)) (now (served .entry))) hand (end - hand) ⌝ }
 {

@@ -1,6 +1,6 @@
 //! The second program behind the same C functions, so that the comparison can try itself.
 //! It can be told to make one mistake; the comparison must then find it. Frame has a file of its own,
-//! and so have the mistakes in a walk over a whole trace.
+//! and so have most mistakes in a walk over a whole trace.
 
 use crate::map_cases::{flipped, has, Map};
 use crate::mirror_walks::wrongly_walked;
@@ -357,40 +357,62 @@ unsafe extern "C" fn hedravos_plan(
     let requests = list(trace, trace_len);
     let room = lent(words, words_len);
     let mut reply = second::write_plan(rule, n, requests, room);
-    if mistake(2) && rule == second::MIN && reply.number == 0 {
-        // Turned round, the highest page number is the lowest.
-        let turned: Vec<u32> = requests.iter().map(|&page| MARK - 1 - page).collect();
-        second::write_plan(rule, n, &turned, room);
-        for word in &mut room[..trace_len] {
-            if *word != MARK {
-                *word = MARK - 1 - *word;
-            }
-        }
-    }
-    let planted = if rule == second::MIN { 80 } else { 85 };
-    if mistake(planted) && reply.number == 0 {
-        reply = second::count(rule, n, &hashed(requests));
-    }
     if reply.number == 0 {
-        if let Some((plan, faults)) = wrongly_walked(rule, n, requests) {
-            room[..trace_len].copy_from_slice(&plan);
-            reply.faults = faults;
-        }
-    }
-    if mistake(84) && reply.number == 0 {
-        for (word, &page) in room.iter_mut().zip(requests) {
-            if *word != MARK {
-                *word = page;
-            }
-        }
-    }
-    if mistake(3) && reply.number == 0 && words_len > trace_len {
-        room[trace_len] = MARK;
+        reply = wrongly_planned(rule, n, requests, room, reply);
     }
     if mistake(4) && reply.number == 6 && words_len > 0 {
         room[0] = MARK;
     }
     put(lent(answer, answer_len), reply);
+}
+
+/// What a plan's call comes to with the planted mistake, where it isn't refused.
+fn wrongly_planned(
+    rule: u32,
+    n: u32,
+    requests: &[u32],
+    room: &mut [u32],
+    mut reply: Reply,
+) -> Reply {
+    let t = requests.len();
+    if mistake(2) && rule == second::MIN {
+        plan_turned_round(n, requests, room);
+    }
+    let planted = if rule == second::MIN { 80 } else { 85 };
+    if mistake(planted) {
+        reply = second::count(rule, n, &hashed(requests));
+    }
+    if let Some((plan, faults)) = wrongly_walked(rule, n, requests) {
+        room[..t].copy_from_slice(&plan);
+        reply.faults = faults;
+    }
+    if mistake(84) {
+        name_the_new(requests, room);
+    }
+    if mistake(3) && room.len() > t {
+        room[t] = MARK;
+    }
+    reply
+}
+
+/// MIN's plan with the highest of the dead pages: turned round, the highest page number is the lowest.
+fn plan_turned_round(n: u32, requests: &[u32], room: &mut [u32]) {
+    let turned: Vec<u32> = requests.iter().map(|&page| MARK - 1 - page).collect();
+    second::write_plan(second::MIN, n, &turned, room);
+    for word in &mut room[..requests.len()] {
+        if *word != MARK {
+            *word = MARK - 1 - *word;
+        }
+    }
+}
+
+/// For each page that goes the one that comes.
+fn name_the_new(requests: &[u32], room: &mut [u32]) {
+    for (word, &page) in room.iter_mut().zip(requests) {
+        if *word != MARK {
+            *word = page;
+        }
+    }
 }
 
 /// Hashes in place of pages, as an index might take them.
