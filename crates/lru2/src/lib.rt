@@ -54,14 +54,12 @@ fn walked(n: u32, trace: &[u32], words: &mut [u32]) -> u32
     let mut faults: u32 = 0;
     let mut i: usize = 0;
     while i < trace.len() {
-        let page = Page(trace[i]);
         first = walks::onward(first, i, &served, &last, &earlier);
         second = walks::onward(second, i, &served, &earlier, &earlier);
-        let goes = Frame(served[hand_of(first, second, i)] as u32);
         let seat = walks::serve(
             n as usize,
-            page,
-            goes,
+            Page(trace[i]),
+            Frame(served[hand_of(first, second, i)] as u32),
             i,
             held,
             &mut pages,

@@ -21,6 +21,10 @@ no-later h i l m = omega arith
 pub next-fits : (i : ℕ) → i < requestLimit → Fits w64 (i + 1)
 next-fits i h = omega arith
 
+-- its place in a list of numbers of 32 bits
+pub moment-long : (i : ℕ) → i < requestLimit → Fits w64 (i * 4)
+moment-long i h = omega arith
+
 pub moment-fits : (i : ℕ) → i < requestLimit → Fits w16 i
 moment-fits i h = omega arith
 

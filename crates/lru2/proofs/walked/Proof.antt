@@ -2,13 +2,12 @@
 -- Assumes nothing.
 use mathlib.Core.Path.{_≡_, refl, sym, ap, _∙_}
 use Prim.Native.Nat.{_-_, _≤_, _<_}
-use borrow.Author.Needs.{needs}
 use lib.ListN.{length}
 use Rattle.paging.specs.Walk.{faultOf, entriesAt}
 use Rattle.paging.specs.declared.Rule.the-variants.{Lru2}
 use Rattle.walks.specs.Tied.{seatAt}
 use Rattle.walks.proofs.Hands.{Stopped}
-use Rattle.walks.proofs.Numbers.{less, in-time, no-later, next-fits, moment-fits, faults-fit, low-frame, frame-byte, frame-word, frame-index, frame-short}
+use Rattle.walks.proofs.Numbers.{less, in-time, no-later, next-fits, moment-long, moment-fits, faults-fit, low-frame, frame-byte, frame-word, frame-index, frame-short}
 use Rattle.walks.proofs.Walking.{Walk, walk-starts, walk-told, walk-steps, walk-few, walk-ends, put-most, few, seat-is, goes-in, seat-low, seat-serves}
 use Rattle.lru2.proofs.Twice.{Twice, twice-starts, twice-stops, twice-stops₂, twice-moves, twice-knows, twice-steps, hand-inside}
 use Rattle.lru2.proofs.walked.Statement.{statement}
@@ -23,20 +22,20 @@ abbrev μ-loop : tie.MeasureT-loop
 
 -- what came before a request's parts: the loop's state, the call, the hands
 abbrev loop-of : tie.After-onward Inv-loop μ-loop → tie.At-loop Inv-loop μ-loop
-loop-of h = h .before .before .before .before .before .before
+loop-of h = h .before .before .before .before .before
 
 abbrev call-of : tie.At-loop Inv-loop μ-loop → tie.Start Inv-loop μ-loop
 call-of l = l .before .before .before
 
 abbrev first-of : tie.After-hand-of Inv-loop μ-loop → tie.After-onward Inv-loop μ-loop
-first-of h = h .before .before .before .before .before
+first-of h = h .before .before .before .before .before .before
 
 abbrev hand-of : tie.After-serve Inv-loop μ-loop → tie.After-hand-of Inv-loop μ-loop
 hand-of a = a .before .before .before .before .before
 
 -- the request is one of the trace
 abbrev more : (h : tie.After-onward Inv-loop μ-loop) → loop-of h .loop .i < length (call-of (loop-of h) .args .trace .now)
-more h = h .before .before .before .before .before .loop-test .taken
+more h = h .before .before .before .before .loop-test .taken
 
 early : (h : tie.After-onward Inv-loop μ-loop) → loop-of h .loop .i < 8000
 early h = in-time _ _ (more h) (call-of (loop-of h) .pre .2)
@@ -53,7 +52,7 @@ stop₂ h = let one = h .before .before .before .before in twice-stops₂ _ _ _ 
 
 -- the hand that counts stands no later
 inside : (h : tie.After-hand-of Inv-loop μ-loop) → h .hand-of .result ≤ loop-of (first-of h) .loop .i
-inside h = hand-inside _ _ _ (stop₂ (h .before) .inside) _ (h .hand-of .ensures)
+inside h = hand-inside _ _ _ (stop₂ (h .before .before) .inside) _ (h .hand-of .ensures)
 
 -- the frame is the definition's, and one of the n
 seat : (a : tie.After-serve Inv-loop μ-loop)
@@ -61,7 +60,7 @@ seat : (a : tie.After-serve Inv-loop μ-loop)
 seat a =
     let h = hand-of a in
     let l = loop-of (first-of h) in
-    a .serve .ensures .0 ∙ seat-is Lru2 _ _ _ _ _ _ _ (l .loop .inv .0 .tied) _ (twice-knows _ _ _ _ _ _ _ _ _ _ _ _ (l .loop .inv .0 .tied) (l .loop .inv .1) (call-of l .pre .0) _ (stop (first-of h)) _ (stop₂ (h .before)) _ (h .hand-of .ensures))
+    a .serve .ensures .0 ∙ seat-is Lru2 _ _ _ _ _ _ _ (l .loop .inv .0 .tied) _ (twice-knows _ _ _ _ _ _ _ _ _ _ _ _ (l .loop .inv .0 .tied) (l .loop .inv .1) (call-of l .pre .0) _ (stop (first-of h)) _ (stop₂ (h .before .before)) _ (h .hand-of .ensures))
 
 low : (a : tie.After-serve Inv-loop μ-loop) → a .serve .result .frame .0 < 256
 low a =
@@ -71,20 +70,14 @@ loop-holds : tie.Need-loop-holds Inv-loop μ-loop
 unfolding entriesAt
 loop-holds c = let s = c .before .before in (walk-starts Lru2 (s .args .n) (s .args .trace .now) (s .args .words .now), twice-starts)
 
-mul-t19 : tie.Need-mul-t19 Inv-loop μ-loop
-mul-t19 c = search needs
-
-shared-slice-read-t22 : tie.Need-shared-slice-read-t22 Inv-loop μ-loop
-shared-slice-read-t22 c = search needs
-
 slice-aggregate-onward : tie.Need-slice-aggregate-onward Inv-loop μ-loop
-slice-aggregate-onward c = sym (c .before .before .before .loop .inv .1 .moments)
+slice-aggregate-onward c = sym (c .before .before .loop .inv .1 .moments)
 
 slice-aggregate-onward-2 : tie.Need-slice-aggregate-onward-2 Inv-loop μ-loop
-slice-aggregate-onward-2 c = sym (c .before .before .before .before .loop .inv .1 .frames)
+slice-aggregate-onward-2 c = sym (c .before .before .before .loop .inv .1 .frames)
 
 slice-aggregate-onward-3 : tie.Need-slice-aggregate-onward-3 Inv-loop μ-loop
-slice-aggregate-onward-3 c = sym (c .before .before .before .before .before .loop .inv .1 .pasts)
+slice-aggregate-onward-3 c = sym (c .before .before .before .before .loop .inv .1 .pasts)
 
 onward-requires : tie.Need-onward-requires Inv-loop μ-loop
 onward-requires c κs = tt
@@ -101,14 +94,20 @@ slice-aggregate-onward-6 c = sym (loop-of (c .before .before .before) .loop .inv
 onward-requires-2 : tie.Need-onward-requires-2 Inv-loop μ-loop
 onward-requires-2 c κs = tt
 
+mul-t31 : tie.Need-mul-t31 Inv-loop μ-loop
+mul-t31 c = moment-long _ (early (c .before .before .before .before))
+
+shared-slice-read-t33 : tie.Need-shared-slice-read-t33 Inv-loop μ-loop
+shared-slice-read-t33 c = more (c .before .before .before .before .before)
+
 hand-of-requires : tie.Need-hand-of-requires Inv-loop μ-loop
 hand-of-requires c κs = tt
 
-array-read-t37 : tie.Need-array-read-t37 Inv-loop μ-loop
-array-read-t37 c = no-later _ _ (inside c) (early (first-of c))
+array-read-t38 : tie.Need-array-read-t38 Inv-loop μ-loop
+array-read-t38 c = no-later _ _ (inside c) (early (first-of c))
 
-cast-t22 : tie.Need-cast-t22 Inv-loop μ-loop
-cast-t22 c = let h = first-of c in frame-word _ (loop-of h .loop .inv .1 .bytes _ (no-later _ _ (inside c) (early h)))
+cast-t39 : tie.Need-cast-t39 Inv-loop μ-loop
+cast-t39 c = let h = first-of c in frame-word _ (loop-of h .loop .inv .1 .bytes _ (no-later _ _ (inside c) (early h)))
 
 slice-aggregate-serve : tie.Need-slice-aggregate-serve Inv-loop μ-loop
 slice-aggregate-serve c = sym (loop-of (first-of (c .before)) .loop .inv .0 .tied .index .room)
@@ -125,7 +124,7 @@ serve-requires c κs =
     let l = loop-of (first-of h) in
     let s = call-of l in
     let x = l .loop .inv .0 .tied in
-    (x .index, few _ _ _ _ _ _ _ _ x, s .pre .1, goes-in Lru2 _ _ _ _ _ _ _ x (s .pre .0) _ (twice-knows _ _ _ _ _ _ _ _ _ _ _ _ (l .loop .inv .0 .tied) (l .loop .inv .1) (call-of l .pre .0) _ (stop (first-of h)) _ (stop₂ (h .before)) _ (h .hand-of .ensures)))
+    (x .index, few _ _ _ _ _ _ _ _ x, s .pre .1, goes-in Lru2 _ _ _ _ _ _ _ x (s .pre .0) _ (twice-knows _ _ _ _ _ _ _ _ _ _ _ _ (l .loop .inv .0 .tied) (l .loop .inv .1) (call-of l .pre .0) _ (stop (first-of h)) _ (stop₂ (h .before .before)) _ (h .hand-of .ensures)))
 
 cast-at : tie.Need-cast-at Inv-loop μ-loop
 cast-at c = frame-index _ (low (c .before .before .before .before .before .before))
@@ -184,7 +183,7 @@ loop-again c =
     let w = l .loop .inv .0 in
     let e = a .serve .ensures in (
       walk-steps Lru2 _ _ _ _ _ _ _ _ _ _ w (s .pre .0) (more (first-of h)) _ (seat a) _ refl _ _ _ (e .1 .1 .1 .0) (e .1 .1 .1 .1 .0) _ (e .1 .1 .1 .1 .1) _ (e .1 .1 .0) _ (e .1 .0),
-      twice-steps _ _ _ _ _ _ _ (twice-moves _ _ _ _ _ _ _ (l .loop .inv .1) _ (stop (first-of h)) _ (stop₂ (h .before))) (early (first-of h)) _ _ _ _ (seat-serves Lru2 _ _ _ _ _ _ _ (w .tied) (s .pre .0) _ (seat a)) (low a) _ (e .1 .1 .0 ∙ ap faultOf (walk-told Lru2 _ _ _ _ _ _ _ _ _ _ w (s .pre .0) (more (first-of h)) _ (seat a) _ refl)) _ (c .before .earlier-for .ensures),
+      twice-steps _ _ _ _ _ _ _ (twice-moves _ _ _ _ _ _ _ (l .loop .inv .1) _ (stop (first-of h)) _ (stop₂ (h .before .before))) (early (first-of h)) _ _ _ _ (seat-serves Lru2 _ _ _ _ _ _ _ (w .tied) (s .pre .0) _ (seat a)) (low a) _ (e .1 .1 .0 ∙ ap faultOf (walk-told Lru2 _ _ _ _ _ _ _ _ _ _ w (s .pre .0) (more (first-of h)) _ (seat a) _ refl)) _ (c .before .earlier-for .ensures),
     )
 
 same-length : tie.Need-same-length Inv-loop μ-loop
@@ -200,8 +199,6 @@ walked-spec =
     Inv-loop
     μ-loop
     loop-holds
-    mul-t19
-    shared-slice-read-t22
     slice-aggregate-onward
     slice-aggregate-onward-2
     slice-aggregate-onward-3
@@ -210,9 +207,11 @@ walked-spec =
     slice-aggregate-onward-5
     slice-aggregate-onward-6
     onward-requires-2
+    mul-t31
+    shared-slice-read-t33
     hand-of-requires
-    array-read-t37
-    cast-t22
+    array-read-t38
+    cast-t39
     slice-aggregate-serve
     slice-aggregate-serve-2
     slice-aggregate-serve-3
