@@ -54,6 +54,9 @@ pub struct Tally {
     pub passed: u64,
     pub failed: u64,
     pub told: Vec<String>,
+    /// The group ends, by unwinding, at the first case that fails.
+    #[cfg(feature = "self-check")]
+    pub first_is_enough: bool,
 }
 
 impl Tally {
@@ -65,6 +68,10 @@ impl Tally {
         self.failed += 1;
         if self.told.len() < TOLD {
             self.told.push(what());
+        }
+        #[cfg(feature = "self-check")]
+        if self.first_is_enough {
+            std::panic::resume_unwind(Box::new(()));
         }
     }
 }
