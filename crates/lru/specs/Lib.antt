@@ -1,1 +1,0 @@
--- The contracts of LRU over a whole trace cite document 01's definitions alone.
