@@ -1,6 +1,7 @@
 // The bundle file of document 01: little-endian words in three sections, sizes, requests and plan, each after its count.
 // Reading copies only what `reading` has judged whole; writing judges the call before it writes anything.
 // In order: reading; words and sections to bytes; writing; document 01's numbers of a writing.
+#![tactic(auto)]
 ghost use Rattle.std.specs.Prelude.{◌≡◌, ◌+◌, ◌*◌, ◌%◌, ◌≤◌, length};
 ghost use Rattle.paging.specs.Calls.{request_limit, gate};
 ghost use Rattle.reading.specs.Reading.{read_of};
@@ -15,14 +16,14 @@ use paging::{Gate, Refusal};
 use reading::ReadAnswer;
 use words::reader;
 
-#[derive(Drop)]
+#[derive(Clone, Copy)]
 pub enum WriteAnswer {
     Bytes(u32),
     Refused(Refusal),
 }
 
 // Document 01's numbers of a writing. What an answer lacks is 0.
-#[derive(Drop)]
+#[derive(Clone, Copy)]
 pub struct WriteNumbers {
     pub number: u32,
     pub place: u32,

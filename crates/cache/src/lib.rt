@@ -1,5 +1,6 @@
 // The cache record of document 01: its limits, the blank record, the empty cache of a given size, soundness, and the request of a sound record.
 // Feed is in feed.rt, which frame holds a page in frame.rt. What asks something of its caller is private.
+#![tactic(auto)]
 mod feed;
 mod frame;
 
@@ -13,7 +14,7 @@ ghost use Rattle.cache.specs.Feed.{served};
 use paging::{Entry, Frame, Gate, Moment, Outcome, Page, Refusal};
 
 // The map has a bit for each frame, low bits first: how many are set is how many pages the cache holds.
-#[derive(Drop)]
+#[derive(Clone, Copy)]
 pub struct Cache {
     pub rule: u32,
     pub frames: u32,
@@ -23,21 +24,21 @@ pub struct Cache {
 }
 
 // What Fresh hands back: the empty cache, or a refusal beside the blank record.
-#[derive(Drop)]
+#[derive(Clone, Copy)]
 pub struct Fresh {
     pub gate: Gate,
     pub cache: Cache,
 }
 
 // What serving a request came to, and the record after it.
-#[derive(Drop)]
+#[derive(Clone, Copy)]
 struct Served {
     pub outcome: Outcome,
     pub next: Cache,
 }
 
 // What Feed says of a request.
-#[derive(Drop)]
+#[derive(Clone, Copy)]
 pub enum Reply {
     Hit,
     Loaded,
@@ -46,7 +47,7 @@ pub enum Reply {
 }
 
 // Feed's reply in numbers: a refusal's number and place, the kind (0 hit or refused, 1 loaded, 2 dropped), and the page dropped, else the mark.
-#[derive(Drop)]
+#[derive(Clone, Copy)]
 pub struct ReplyNumbers {
     pub number: u32,
     pub place: u32,
@@ -55,14 +56,14 @@ pub struct ReplyNumbers {
 }
 
 // What Feed hands back: its reply and the next record; a refused Feed hands back the record it got.
-#[derive(Drop)]
+#[derive(Clone, Copy)]
 pub struct Fed {
     pub outcome: Reply,
     pub next: Cache,
 }
 
 // Which frame of a record holds a page.
-#[derive(Drop)]
+#[derive(Clone, Copy)]
 pub enum Lookup {
     At(Frame),
     Absent,
@@ -70,7 +71,7 @@ pub enum Lookup {
 }
 
 // The answer in numbers: a refusal's number and place, whether a frame holds the page (1 or 0), and that frame; what an answer lacks is 0.
-#[derive(Drop)]
+#[derive(Clone, Copy)]
 pub struct LookupNumbers {
     pub number: u32,
     pub place: u32,

@@ -1,6 +1,7 @@
 // What every service on a trace asks first, once for all: the chain of refusals 1, 2, 3, 4 and 6 of document 01 as code.
 // A service takes the gate of its trace, adds its own tests, and goes on where the gate is open.
 // Beside it: where a page stands in a list of pages, and document 01's numbers of an answer.
+#![tactic(auto)]
 ghost use Rattle.std.specs.Prelude.{◌≡◌};
 ghost use Rattle.paging.specs.Lists.{place_of};
 ghost use Rattle.paging.specs.Calls.{outside, gate, trace_tests, rule_tests};
@@ -14,7 +15,7 @@ pub const FRAMES: u32 = 256;
 pub const REQUESTS: usize = 8000;
 
 // The numbers of an answer: its faults, and a refusal's number and place. What an answer lacks is 0.
-#[derive(Drop)]
+#[derive(Clone, Copy)]
 pub struct AnswerNumbers {
     pub faults: u32,
     pub number: u32,

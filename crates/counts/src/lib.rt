@@ -1,4 +1,5 @@
 // The services Count and Write a plan, for all four rules: each rule has a crate with its walk over a whole trace.
+#![tactic(auto)]
 ghost use Rattle.std.specs.Prelude.{◌≡◌};
 ghost use Rattle.paging.specs.Rules.{rule_numbered, named};
 ghost use Rattle.paging.specs.Calls.{trace_tests, rule_tests};
@@ -13,7 +14,7 @@ fn walk(rule: Rule, n: u32, trace: &[u32], words: &mut [u32]) -> Answer
     ensures { (result ≡ answered (trace_tests n trace.now) rule n trace.now) × (words.new ≡ written (trace_tests n trace.now) rule n trace.now words.old) }
 {
     match rule {
-        Rule::Lru => lru::run(n, trace, words),
+        Rule::Lru => lru1::run(n, trace, words),
         Rule::Fifo => fifo::run(n, trace, words),
         Rule::Min => minimum::run(n, trace, words),
         Rule::Lru2 => lru2::run(n, trace, words),

@@ -2,6 +2,7 @@
 // so the walk carries the frame of the next fault, which is the next free one or, in a full cache, that of the page loaded earliest.
 //
 // A walk owns the held pages with their index (crate `held`), and lends them to each request as slices of numbers.
+#![tactic(auto)]
 ghost use Rattle.std.specs.Prelude.{◌≡◌, ◌≤◌, ◌<◌, length};
 ghost use Rattle.paging.specs.Walk.{faults, plan};
 ghost use Rattle.paging.specs.Calls.{frame_limit, request_limit, trace_tests};

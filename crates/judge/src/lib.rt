@@ -1,6 +1,7 @@
 // Document 01's services Check and Better of two.
 // Check is answered by the walk of a plan (`plans::run`).
 // Better of two has one choice, `better`, behind both of its questions.
+#![tactic(auto)]
 ghost use Rattle.std.specs.Prelude.{◌≡◌};
 ghost use Rattle.calls.specs.Answers.{answer_numbers};
 ghost use Rattle.plans.specs.Check.{check_of};
@@ -9,7 +10,7 @@ ghost use Rattle.judge.specs.Better.{fewer, better_of, better_words, lender_of, 
 use paging::{Answer, Refusal};
 
 // Which plan, and its faults; or the first plan's refusal.
-#[derive(Drop)]
+#[derive(Clone, Copy)]
 pub enum Verdict {
     First(u32),
     Second(u32),
@@ -17,7 +18,7 @@ pub enum Verdict {
 }
 
 // The numbers of a verdict: which plan, its faults, and a refusal's number and place. What a verdict lacks is 0.
-#[derive(Drop)]
+#[derive(Clone, Copy)]
 pub struct VerdictNumbers {
     pub which: u32,
     pub faults: u32,

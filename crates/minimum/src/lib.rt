@@ -1,6 +1,7 @@
 // MIN over a whole trace: its count and its plan. Beside each held page stands its turn, the moment of its next request.
 //
 // A walk owns the held pages with their index (crate `held`) and their turns, and lends them to each request as slices of numbers.
+#![tactic(auto)]
 ghost use Rattle.std.specs.Prelude.{◌≡◌, ℕ, ◌+◌, ◌≤◌, ◌<◌, length, get_or};
 ghost use Rattle.paging.specs.Walk.{faults, plan};
 ghost use Rattle.paging.specs.Calls.{frame_limit, request_limit, trace_tests};

@@ -1,5 +1,7 @@
 // The words of document 01: pages, frames and moments, which frame holds a page, the four rules, what a request comes to, and the twelve ways to say no.
 // The rules themselves, the walk and plans are definitions in specs/; their laws are in proofs/.
+#![tactic(auto)]
+
 ghost use Rattle.std.specs.Prelude.{◌≡◌};
 ghost use Rattle.paging.specs.Refusals.{table, gate_numbers};
 ghost use Rattle.paging.specs.Rules.{rule_numbered};
@@ -9,26 +11,26 @@ ghost use Rattle.paging.specs.Walk.{fault_of, word_of};
 pub const MARK: u32 = 4294967295;
 
 // A tile's number, 0 to 4,294,967,294.
-#[derive(Drop)]
+#[derive(Clone, Copy)]
 pub struct Page(pub u32);
 
 // A place in the cache, from 0.
-#[derive(Drop)]
+#[derive(Clone, Copy)]
 pub struct Frame(pub u32);
 
 // The place of a request in its trace, from 0.
-#[derive(Drop)]
+#[derive(Clone, Copy)]
 pub struct Moment(pub u32);
 
 // Which frame holds a page.
-#[derive(Drop)]
+#[derive(Clone, Copy)]
 pub enum Found {
     At(Frame),
     Absent,
 }
 
 // What a frame in use knows of its page.
-#[derive(Drop)]
+#[derive(Clone, Copy)]
 pub struct Entry {
     pub page: Page,
     pub loaded: Moment,
@@ -37,7 +39,7 @@ pub struct Entry {
 }
 
 // The four eviction rules.
-#[derive(Drop)]
+#[derive(Clone, Copy)]
 pub enum Rule {
     Lru,
     Fifo,
@@ -46,7 +48,7 @@ pub enum Rule {
 }
 
 // What a rule number stands for.
-#[derive(Drop)]
+#[derive(Clone, Copy)]
 pub enum Numbered {
     Is(Rule),
     Unknown,
@@ -73,7 +75,7 @@ impl Rule {
 }
 
 // What one request came to. Faults are all but hits.
-#[derive(Drop)]
+#[derive(Clone, Copy)]
 pub enum Outcome {
     Hit,
     Loaded,
@@ -105,7 +107,7 @@ impl Outcome {
 }
 
 // The twelve ways to say no, in the order of their numbers. A case holds its place where document 01 does not fix it.
-#[derive(Drop)]
+#[derive(Clone, Copy)]
 pub enum Refusal {
     UnknownRule,
     FramesOutside(u32),
@@ -162,14 +164,14 @@ impl Refusal {
 }
 
 // Whether a call may go on.
-#[derive(Drop)]
+#[derive(Clone, Copy)]
 pub enum Gate {
     Open,
     No(Refusal),
 }
 
 // The numbers of a gate: a refusal's number and place, 0 for both where the gate is open.
-#[derive(Drop)]
+#[derive(Clone, Copy)]
 pub struct GateNumbers {
     pub number: u32,
     pub place: u32,
@@ -193,7 +195,7 @@ impl Gate {
 }
 
 // The answer of a service that counts.
-#[derive(Drop)]
+#[derive(Clone, Copy)]
 pub enum Answer {
     Faults(u32),
     Refused(Refusal),

@@ -1,5 +1,6 @@
 // What reading a bundle file of document 01 answers: its sizes and counts, or the first refusal. Nothing is copied here; `bundle::read` copies what was judged.
 // In order: a word by the reader of `words`; the gates of a file, front to back; the answer; document 01's numbers of it.
+#![tactic(auto)]
 ghost use Rattle.std.specs.Prelude.{◌≡◌, ◌+◌, ◌*◌, ◌/◌, ◌<◌, ◌≤◌, length};
 ghost use Rattle.paging.specs.Calls.{request_limit, gate, first_mark};
 ghost use Rattle.paging.specs.declared.Gate.TheVariants.{No};
@@ -12,7 +13,7 @@ use paging::{Gate, Refusal};
 use words::{Word, reader};
 
 // What a bundle says of itself: both sizes, the number of requests, and of plan words (0 where no plan came).
-#[derive(Drop)]
+#[derive(Clone, Copy)]
 pub struct Sizes {
     pub n: u32,
     pub m: u32,
@@ -20,14 +21,14 @@ pub struct Sizes {
     pub planned: u32,
 }
 
-#[derive(Drop)]
+#[derive(Clone, Copy)]
 pub enum ReadAnswer {
     Bundle(Sizes),
     Refused(Refusal),
 }
 
 // Document 01's numbers of a reading. What an answer lacks is 0.
-#[derive(Drop)]
+#[derive(Clone, Copy)]
 pub struct ReadNumbers {
     pub number: u32,
     pub place: u32,

@@ -1,4 +1,5 @@
 // The report program: prints the report of the bundle file on standard input, of which at most 65,536 bytes are read.
+#![tactic(auto)]
 fn main() {
     let mut file = io::large_buffer();
     let read = io::read_full(0, &mut file);

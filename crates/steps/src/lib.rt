@@ -1,5 +1,6 @@
 // One request over a record's parts: rule, frames, the map of occupied frames, and the 256 entries.
 // It asks nothing of them; that it is document 01's step wherever they are sound is proved in crate `cache` (`served_steps`).
+#![tactic(auto)]
 ghost use Rattle.std.specs.Prelude.{◌≡◌, ◌<◌, set};
 ghost use Rattle.paging.specs.Calls.{frame_limit};
 ghost use Rattle.occupancy.specs.Map.{with_frame};
@@ -8,7 +9,7 @@ ghost use Rattle.steps.specs.Devices.Step.{hit_step, full_step, load_step, stepp
 use paging::{Entry, Found, Frame, Moment, Outcome, Page};
 
 // What a request came to, and the map and the entries after it.
-#[derive(Drop)]
+#[derive(Clone, Copy)]
 pub struct After {
     pub outcome: Outcome,
     pub map: [u64; occupancy::WORDS],

@@ -1,6 +1,7 @@
 // Trials of the bundle file that are run: document 01's example of 84 bytes written and read back, each refusal of a reading and of a writing, no bytes at all, and the largest file.
 // A line of a reading has number, place, n, m, T and the plan's count; one of a writing has number, place and bytes. Behind a colon stand lent words as
 // they are left, the mark as -.
+#![tactic(auto)]
 ghost use Rattle.std.specs.Prelude.{◌<◌};
 
 use bundle::WriteAnswer;

@@ -105,7 +105,7 @@ pub(crate) fn feed(line: Line, words: &[u32; 16500], record: &mut [u32; WORDS]) 
 }
 
 // What two requests of a kept record came to.
-#[derive(Drop)]
+#[derive(Clone, Copy)]
 struct Two {
     first: Reply,
     second: Reply,
@@ -129,7 +129,7 @@ fn kept(cache: Cache, first: Page, second: Page) -> Two
 }
 
 // The replies to two requests.
-#[derive(Drop)]
+#[derive(Clone, Copy)]
 struct Replies {
     first: [u32; 4],
     second: [u32; 4],

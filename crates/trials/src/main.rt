@@ -1,5 +1,6 @@
 // Document 01's trials, run: each line of standard input has a name, a colon, a word that says what is asked, and numbers. The name is printed as it is read, the answer behind it.
 // script.rt reads a line, lists.rt answers what is asked of lists, caches.rt what is asked of a record.
+#![tactic(auto)]
 mod caches;
 mod lists;
 mod script;

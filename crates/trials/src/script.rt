@@ -2,7 +2,7 @@
 use paging::MARK;
 
 // What has been read of a line: its stage, the letter, the number being read and the one that is to be repeated, the next number's place, and the first three cuts.
-#[derive(Drop)]
+#[derive(Clone, Copy)]
 pub struct Line {
     pub stage: u8,
     pub verb: u8,

@@ -2,6 +2,7 @@
 // a hand that goes over the moments; the fault of an outcome and its word of the plan; how many pages are held then.
 //
 // `served` has the frame in which the page of each moment stood then. A list of moments has one for each frame.
+#![tactic(auto)]
 ghost use Rattle.std.specs.Prelude.{◌≡◌, ◌-◌, ◌≤◌, ◌<◌, take, set};
 ghost use Rattle.paging.specs.Calls.{frame_limit};
 ghost use Rattle.paging.specs.Held.{frame_after};
@@ -89,7 +90,7 @@ pub fn count_after(frame: Frame, held: usize) -> usize
 }
 
 // What a request comes to: the frame of its page then, how many pages are held then, and its fault or none.
-#[derive(Drop)]
+#[derive(Clone, Copy)]
 pub struct Seat {
     pub frame: Frame,
     pub held: usize,

@@ -1,11 +1,12 @@
 // Little-endian 32-bit words in a bundle file's bytes: the word at a byte, several from there on, and the reader over both.
+#![tactic(auto)]
 ghost use Rattle.std.specs.Prelude.{◌≡◌, ◌++◌, ◌+◌, ◌*◌, ◌<◌, ◌≤◌, length, drop};
 ghost use Rattle.words.specs.Bytes.{word_at, word_in, words_at};
 
 pub mod reader; // reader.rt: a file and a place in it
 
 // The word at a byte of a file, or none where the file ends before the word does.
-#[derive(Drop)]
+#[derive(Clone, Copy)]
 pub enum Word {
     Is(u32),
     Missing,

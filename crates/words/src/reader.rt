@@ -6,7 +6,7 @@ ghost use Rattle.words.specs.Places.{bytes_from, place_after, lesser_of, words_h
 
 use super::Word;
 
-#[derive(Drop)]
+#[derive(Clone, Copy)]
 pub struct Reader<'a> {
     pub file: &'a [u8],
     pub at: usize,

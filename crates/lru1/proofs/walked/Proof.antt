@@ -1,4 +1,4 @@
--- `lru::walked` meets its contract. The loop's invariant: the walk so far (`Walk`), and the hand with what it goes by (`Lasts`).
+-- `lru1::walked` meets its contract. The loop's invariant: the walk so far (`Walk`), and the hand with what it goes by (`Lasts`).
 -- Assumes nothing.
 use mathlib.Core.Path.{◌≡◌, refl, sym, ◌∙◌}
 use Prim.Native.Nat.{◌-◌, ◌<◌}
@@ -10,9 +10,9 @@ use Rattle.walks.specs.Tied.{seat_at}
 use Rattle.walks.proofs.Hands.{Stopped}
 use Rattle.walks.proofs.Numbers.{less, in_time_lem, no_later, next_fits, moment_fits, faults_fit, low_frame, frame_byte, frame_word, frame_index, frame_short}
 use Rattle.walks.proofs.Walking.{Walk, walk_starts, walk_steps, walk_few, walk_ends, put_most, few, seat_is, goes_in, seat_low, seat_serves}
-use Rattle.lru.proofs.Lasts.{Lasts, lasts_start, lasts_stop, lasts_move, lasts_know, lasts_step}
-use Rattle.lru.proofs.walked.Statement.{statement}
-use Rattle.lru.proofs.walked.Tie as tie
+use Rattle.lru1.proofs.Lasts.{Lasts, lasts_start, lasts_stop, lasts_move, lasts_know, lasts_step}
+use Rattle.lru1.proofs.walked.Statement.{statement}
+use Rattle.lru1.proofs.walked.Tie as tie
 
 abbrev invariant-loop : tie.invariant-loop
 invariant-loop n trace words₀ pages₀ counts₀ hints₀ last₀ served₀ held₀ hand₀ faults₀ i₀ words pages counts hints last served held hand faults i =

@@ -1,4 +1,4 @@
--- `lru::run` meets its contract: an open gate gives what the walk asks for.
+-- `lru1::run` meets its contract: an open gate gives what the walk asks for.
 -- Assumes nothing.
 use mathlib.Core.Path.{◌≡◌, sym, ◌∙◌}
 use borrow.Author.Rules.{rules}
@@ -8,8 +8,8 @@ use Rattle.paging.specs.declared.Rule.TheVariants.{Lru}
 use Rattle.paging.specs.declared.Gate.TheVariants.{Open}
 use Rattle.paging.proofs.Services.{walk_open, walk_no}
 use Rattle.calls.proofs.Chain.{trace_open}
-use Rattle.lru.proofs.run.Statement.{statement}
-use Rattle.lru.proofs.run.Tie as tie
+use Rattle.lru1.proofs.run.Statement.{statement}
+use Rattle.lru1.proofs.run.Tie as tie
 
 -- the gate is open
 open-gate : (c : tie.After-enum-told)

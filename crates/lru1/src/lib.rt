@@ -2,6 +2,7 @@
 // in the frame served then: that page's last request is earliest. The hand only goes on: over a whole trace it looks at no more than two moments for each request.
 //
 // A walk owns the held pages with their index (crate `held`), the last moment of each frame and the frame served at each moment, and lends them as slices.
+#![tactic(auto)]
 ghost use Rattle.std.specs.Prelude.{◌≡◌, ◌≤◌, length};
 ghost use Rattle.paging.specs.Walk.{faults, plan};
 ghost use Rattle.paging.specs.Calls.{frame_limit, request_limit, trace_tests};
