@@ -2,6 +2,7 @@
 // A service takes the gate of its trace, adds its own tests, and goes on where the gate is open.
 // Beside it: where a page stands in a list of pages, and document 01's numbers of an answer.
 #![tactic(auto)]
+
 ghost use Rattle.std.specs.Prelude.{◌≡◌};
 ghost use Rattle.paging.specs.Lists.{place_of};
 ghost use Rattle.paging.specs.Calls.{outside, gate, trace_tests, rule_tests};
