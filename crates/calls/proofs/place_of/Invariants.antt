@@ -1,5 +1,6 @@
--- The loop's invariant: the members passed and the place in the rest make the place in the whole.
-use Rattle.std.proofs.Common.{◌≡◌, ◌+◌, ◌-◌, ◌≤◌, length, drop}
+use mathlib.Core.Path.{◌≡◌}
+use Prim.Native.Nat.{◌+◌, ◌-◌, ◌≤◌}
+use lib.ListN.{length, drop}
 use Rattle.paging.specs.Lists.{place_of}
 use Rattle.calls.proofs.place_of.Given as goal
 

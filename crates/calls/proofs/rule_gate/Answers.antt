@@ -1,0 +1,10 @@
+use Rattle.paging.specs.Calls.{gate, rule_tests}
+use Rattle.calls.proofs.rule_gate.Goals as goal
+
+pub returns-in-Unknown : goal.returns-in-Unknown
+unfolding gate rule_tests
+returns-in-Unknown c = rw (← c.numbered.ensures, c.in-Unknown.is)
+
+pub returns-in-Is : goal.returns-in-Is
+unfolding gate rule_tests
+returns-in-Is c = rw (← c.numbered.ensures, c.in-Is.is) c.trace_gate.ensures
