@@ -4,6 +4,7 @@
 // `pages` has the page of each frame, of which the first `held` are in use.
 // `counts` has for each hash how many held pages have it; `hints` a frame where a page of that hash was put last, which is only a guess.
 #![tactic(auto)]
+
 ghost use Rattle.std.specs.Prelude.{◌≡◌, ◌⊎◌, ◌∷◌, [], ◌++◌, ◌+◌, ◌≤◌, ◌<◌, take, set};
 ghost use Rattle.paging.specs.Calls.{frame_limit};
 ghost use Rattle.paging.specs.Held.{found};
