@@ -15,7 +15,7 @@ use lib.Seq.{get_or-drop}
 use borrow.Author.Tests.{leb-true, eqb-true, eqb-false, eq-eqb}
 use Rattle.paging.specs.Lists.{pick, both, implies, any, all}
 use Rattle.paging.specs.Rules.{mark, Sees, next_of, never, once, lru_drops, fifo_drops, min_drops, lru2_drops, drops, chosen}
-use Rattle.paging.specs.Walk.{zero_entry, entry_at, pages, outcomes, sees_at, entries_at}
+use Rattle.paging.specs.Walk.{zero_entry, entry_at, outcomes, sees_at, entries_at}
 use Rattle.paging.specs.Meanings.{Asked, Missed, Latest, Means, Earliest, Held, LastAsked, SecondAsked, LastLoaded, OnlyOnce, NextAsked, NeverAsked, LruRow, FifoRow, MinRow, Lru2Row, RuleRow}
 use Rattle.paging.specs.declared.Page.{Page}
 use Rattle.paging.specs.declared.Entry.{Entry}

@@ -4,14 +4,13 @@
 -- request before `last` since it was loaded, or the mark." For any rule.
 -- Assumes nothing.
 use mathlib.Core.Path.{◌≡◌, refl, sym, ap, ◌∙◌, subst}
-use mathlib.Core.Logic.{◌⊎◌, inl, inr}
+use mathlib.Core.Logic.{inl, inr}
 use mathlib.Core.Bool.{true, false}
 use mathlib.Core.List.{List}
 use Prim.Native.Nat.{ℕ, zero, suc, ◌≤◌, ◌<◌}
 use native.Mathlib.Omega.{arith}
 use native.Mathlib.Decide.{dec_le, dec_lt, ℕ_discrete}
 use lib.ListN.{length, get_or}
-use Rattle.paging.specs.Rules.{mark}
 use Rattle.paging.specs.Walk.{holds, entry_at, loaded_at, renewed, next, sees_at, entries_at}
 use Rattle.paging.specs.Meanings.{Asked, Missed, Latest, Means}
 use Rattle.paging.specs.declared.Entry.{Entry}

@@ -3,7 +3,7 @@
 use mathlib.Core.Path.{◌≡◌, refl, ap, ap₂, ◌∙◌}
 use mathlib.Core.List.{List, [], ◌∷◌, ◌++◌}
 use Prim.Native.Nat.{ℕ, suc}
-use Rattle.paging.specs.Rules.{Sees, between, drops, chosen}
+use Rattle.paging.specs.Rules.{Sees, between, chosen}
 use Rattle.paging.specs.Walk.{outcome, next, outcomes}
 use Rattle.paging.specs.declared.Entry.{Entry}
 use Rattle.paging.specs.declared.Outcome.{Outcome}

@@ -1,7 +1,7 @@
 -- Document 01, "Trials on both sides": the cases marked P, in its order, as one theorem over one list.
 -- Beside them: a case for each clause, by itself; FIFO can fault more with more frames; and the order of refusals, on calls with several causes.
 -- Assumes nothing.
-use Rattle.std.specs.Prelude.{◌≡◌, refl, List, [], ◌∷◌, ◌++◌, Bool, true, false, ℕ, suc, ◌<◌, eqb, replicate}
+use Rattle.std.specs.Prelude.{◌≡◌, refl, List, [], ◌∷◌, ◌++◌, Bool, true, false, ℕ, ◌<◌, eqb, replicate}
 use Rattle.std.proofs.Common.{arith}
 use Rattle.paging.specs.Lists.{both, all}
 use Rattle.paging.specs.Refusals.{table}

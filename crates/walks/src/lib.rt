@@ -3,6 +3,7 @@
 //
 // `served` has the frame in which the page of each moment stood then. A list of moments has one for each frame.
 #![tactic(auto)]
+
 ghost use Rattle.std.specs.Prelude.{◌≡◌, ◌-◌, ◌≤◌, ◌<◌, take, set};
 ghost use Rattle.paging.specs.Calls.{frame_limit};
 ghost use Rattle.paging.specs.Held.{frame_after};

@@ -1,9 +1,7 @@
 -- `held::find` meets its contract: what the count says, what the hinted frame has, and the search from the front.
 -- Assumes nothing.
-use native.Mathlib.Omega.{arith}
 use mathlib.Core.Path.{sym, ◌∙◌}
-use borrow.Author.Rules.{rules}
-use Rattle.held.proofs.Keeping.{held_length, absent_zero, absent_one, found_hinted, found_searched, absent_searched}
+use Rattle.held.proofs.Keeping.{absent_zero, absent_one, found_hinted, found_searched, absent_searched}
 use Rattle.held.proofs.find.Goals as goal
 
 pub returns-then-count-eq0 : goal.returns-then-count-eq0

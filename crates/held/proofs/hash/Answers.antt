@@ -1,7 +1,6 @@
 -- `held::hash` meets its contract.
 -- Assumes nothing.
 use mathlib.Core.Path.{refl}
-use borrow.Author.Rules.{rules}
 use Rattle.held.specs.Index.{hash_of}
 use Rattle.held.proofs.Counting.{hash_below}
 use Rattle.held.proofs.hash.Goals as goal

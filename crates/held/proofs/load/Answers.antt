@@ -2,7 +2,6 @@
 -- Assumes nothing.
 use native.Mathlib.Omega.{arith}
 use Rattle.held.proofs.Keeping.{count_small, load_pages, load_keeps}
-use borrow.Author.Rules.{rules}
 use Rattle.held.proofs.load.Goals as goal
 
 pub overflow_add-counts : goal.overflow_add-counts

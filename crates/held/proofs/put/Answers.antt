@@ -1,7 +1,6 @@
 -- `held::put` meets its contract: one of the three ways of `Placing`.
 -- Assumes nothing.
 use native.Mathlib.Omega.{arith}
-use borrow.Author.Rules.{rules}
 use Rattle.held.proofs.Placing.{put_free, put_hit, put_other, absent_free, absent_other}
 use Rattle.held.proofs.put.Goals as goal
 

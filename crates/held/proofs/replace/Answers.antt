@@ -3,7 +3,6 @@
 use mathlib.Core.Path.{refl}
 use native.Mathlib.Omega.{arith}
 use Rattle.held.proofs.Keeping.{count_some, replace_small, replace_pages, replace_keeps}
-use borrow.Author.Rules.{rules}
 use Rattle.held.proofs.replace.Goals as goal
 
 pub overflow_sub-counts : goal.overflow_sub-counts
