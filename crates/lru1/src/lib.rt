@@ -3,6 +3,7 @@
 //
 // A walk owns the held pages with their index (crate `held`), the last moment of each frame and the frame served at each moment, and lends them as slices.
 #![tactic(auto)]
+
 ghost use Rattle.std.specs.Prelude.{◌≡◌, ◌≤◌, length};
 ghost use Rattle.paging.specs.Walk.{faults, plan};
 ghost use Rattle.paging.specs.Calls.{frame_limit, request_limit, trace_tests};

@@ -5,6 +5,7 @@
 // A walk owns the held pages with their index (crate `held`), of each frame the last moment and the one before it, which is the last again where there is only one,
 // and the frame served at each moment; it lends them as slices.
 #![tactic(auto)]
+
 ghost use Rattle.std.specs.Prelude.{◌≡◌, ◌≤◌, length};
 ghost use Rattle.paging.specs.Walk.{faults, plan};
 ghost use Rattle.paging.specs.Calls.{frame_limit, request_limit, trace_tests};

@@ -2,6 +2,7 @@
 //
 // A walk owns the held pages with their index (crate `held`) and their turns, and lends them to each request as slices of numbers.
 #![tactic(auto)]
+
 ghost use Rattle.std.specs.Prelude.{◌≡◌, ℕ, ◌+◌, ◌≤◌, ◌<◌, length, get_or};
 ghost use Rattle.paging.specs.Walk.{faults, plan};
 ghost use Rattle.paging.specs.Calls.{frame_limit, request_limit, trace_tests};

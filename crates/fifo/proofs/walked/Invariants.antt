@@ -1,16 +1,11 @@
 -- `fifo::walked` meets its contract. The loop's invariant: the walk so far (`Walk`), and the frame of the next fault (`Round`).
 -- Assumes nothing.
-use mathlib.Core.Path.{◌≡◌, refl, sym, ap, ◌∙◌}
-use Prim.Native.Nat.{◌-◌, ◌<◌}
-use borrow.Author.Rules.{rules}
+use Prim.Native.Nat.{◌-◌}
 use lib.ListN.{length}
-use Rattle.paging.specs.Walk.{fault_of, entries_at}
+use Rattle.paging.specs.Walk.{entries_at}
 use Rattle.paging.specs.declared.Rule.TheVariants.{Fifo}
-use Rattle.paging.proofs.Frames.{held_at_most}
-use Rattle.walks.specs.Tied.{seat_at}
-use Rattle.walks.proofs.Numbers.{less, in_time_lem, next_fits, faults_fit, low_frame, frame_word}
-use Rattle.walks.proofs.Walking.{Walk, walk_starts, walk_told, walk_steps, walk_few, walk_ends, put_most, few, seat_is, goes_in, seat_way}
-use Rattle.fifo.proofs.Round.{Round, round_starts, round_knows, round_steps}
+use Rattle.walks.proofs.Walking.{Walk}
+use Rattle.fifo.proofs.Round.{Round}
 use Rattle.fifo.proofs.walked.Given as goal
 
 abbrev pub invariant-loop-i : goal.invariant-loop-i
