@@ -1,7 +1,6 @@
 -- `lru2::run` meets its contract: an open gate gives what the walk asks for.
 -- Assumes nothing.
 use mathlib.Core.Path.{◌≡◌, sym, ◌∙◌}
-use borrow.Author.Rules.{rules}
 use Rattle.paging.specs.Calls.{gate, trace_tests}
 use Rattle.paging.specs.Meanings.{InOrder}
 use Rattle.paging.specs.declared.Rule.TheVariants.{Lru2}

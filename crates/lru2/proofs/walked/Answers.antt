@@ -1,24 +1,19 @@
 -- `lru2::walked` meets its contract. The loop's invariant: the walk so far (`Walk`), and the two hands with what they go by (`Twice`).
 -- Assumes nothing.
-use mathlib.Core.Path.{◌≡◌, refl, sym, ap, ◌∙◌}
-use Prim.Native.Nat.{◌-◌, ◌≤◌, ◌<◌}
-use lib.ListN.{length}
+use mathlib.Core.Path.{◌≡◌, refl, ap, ◌∙◌}
+use Prim.Native.Nat.{◌<◌}
 use Rattle.paging.specs.Walk.{fault_of, entries_at}
 use Rattle.paging.specs.declared.Rule.TheVariants.{Lru2}
 use Rattle.walks.specs.Tied.{seat_at}
 use Rattle.walks.proofs.Hands.{Stopped}
-use Rattle.walks.proofs.Numbers.{less, in_time_lem, no_later, next_fits, moment_long, moment_fits, faults_fit, low_frame, frame_byte, frame_word, frame_index, frame_short}
-use Rattle.walks.proofs.Walking.{Walk, walk_starts, walk_told, walk_steps, walk_few, walk_ends, put_most, few, seat_is, goes_in, seat_low, seat_serves}
-use Rattle.lru2.proofs.Twice.{Twice, twice_starts, twice_stops, twice_stops₂, twice_moves, twice_knows, twice_steps, hand_inside}
+use Rattle.walks.proofs.Numbers.{in_time_lem, no_later, low_frame, frame_byte}
+use Rattle.walks.proofs.Walking.{walk_starts, walk_told, walk_steps, walk_ends, few, seat_is, goes_in, seat_low, seat_serves}
+use Rattle.lru2.proofs.Twice.{twice_starts, twice_stops, twice_stops₂, twice_moves, twice_knows, twice_steps, hand_inside}
 use Rattle.lru2.proofs.walked.Goals as goal
-use Rattle.lru2.proofs.walked.Goals.{After-hand_of, After-onward-first, After-onward-second, After-serve-seat}
-
--- the request is one of the trace
-abbrev more : (c : After-onward-first) → c.loop-i.i < length c.args.trace.now
-more c = c.loop-i-test.true
+use Rattle.lru2.proofs.walked.Goals.{After-onward-first, After-onward-second, After-serve-seat}
 
 early : (c : After-onward-first) → c.loop-i.i < 8000
-early c = in_time_lem _ _ (more c) c.requires.2
+early c = in_time_lem _ _ c.loop-i-test.true c.requires.2
 
 -- where the hands stop
 stop : (c : After-onward-first)
@@ -28,17 +23,14 @@ stop c = twice_stops _ _ _ _ _ _ _ c.loop-i.invariant.1 (early c) _ c.onward-fir
 stop₂ : (c : After-onward-second)
     → Stopped c.loop-i.second c.loop-i.i c.onward-second.result
     c.loop-i.earlier c.loop-i.earlier c.loop-i.served
-stop₂ c = twice_stops₂ _ _ _ _ _ _ _ c.loop-i.invariant.1 (early c) _ c.onward-second.ensures
-
--- the hand that counts stands no later
-inside : (c : After-hand_of) → c.hand_of.result ≤ c.loop-i.i
-inside c = hand_inside _ _ _ (stop₂ c).inside _ c.hand_of.ensures
+stop₂ c = twice_stops₂ _ _ _ _ _ _ _ c.loop-i.invariant.1 (in_time_lem _ _ c.loop-i-test.true c.requires.2) _ c.onward-second.ensures
 
 -- the frame is the definition's, and one of the n
 seat : (c : After-serve-seat)
     → c.serve-seat.result.frame.0 ≡ seat_at Lru2 c.args.n c.args.trace.now c.loop-i.i
 seat c =
-    c.serve-seat.ensures.frame ∙ seat_is Lru2 _ _ _ _ _ _ _ c.loop-i.invariant.0.tied _ (twice_knows _ _ _ _ _ _ _ _ _ _ _ _ c.loop-i.invariant.0.tied c.loop-i.invariant.1 c.requires.0 _ (stop c) _ (stop₂ c) _ c.hand_of.ensures)
+    let e : c.loop-i.i < 8000 = in_time_lem _ _ c.loop-i-test.true c.requires.2 in
+    c.serve-seat.ensures.frame ∙ seat_is Lru2 _ _ _ _ _ _ _ c.loop-i.invariant.0.tied _ (twice_knows _ _ _ _ _ _ _ _ _ _ _ _ c.loop-i.invariant.0.tied c.loop-i.invariant.1 c.requires.0 _ (twice_stops _ _ _ _ _ _ _ c.loop-i.invariant.1 e _ c.onward-first.ensures) _ (twice_stops₂ _ _ _ _ _ _ _ c.loop-i.invariant.1 e _ c.onward-second.ensures) _ c.hand_of.ensures)
 
 low : (c : After-serve-seat) → c.serve-seat.result.frame.0 < 256
 low c =
@@ -49,7 +41,7 @@ unfolding entries_at
 loop-i-init c = (walk_starts Lru2 c.args.n c.args.trace.now c.args.words.now, twice_starts)
 
 pub bounds-served-hand_of : goal.bounds-served-hand_of
-bounds-served-hand_of c = no_later _ _ (inside (goal.at.bounds-served-hand_of c).After-hand_of) (early (goal.at.bounds-served-hand_of c).After-onward-first)
+bounds-served-hand_of c = no_later _ _ (hand_inside _ _ _ (stop₂ (goal.at.bounds-served-hand_of c).After-onward-second).inside _ c.hand_of.ensures) (early (goal.at.bounds-served-hand_of c).After-onward-first)
 
 pub serve-seat-requires : goal.serve-seat-requires
 serve-seat-requires c =
@@ -72,8 +64,8 @@ pub loop-i-preserved : goal.loop-i-preserved
 loop-i-preserved c =
     let w = c.loop-i.invariant.0 in
     let e = c.serve-seat.ensures in (
-      walk_steps Lru2 _ _ _ _ _ _ _ _ _ _ w c.requires.0 (more (goal.at.loop-i-preserved c).After-onward-first) _ (seat (goal.at.loop-i-preserved c).After-serve-seat) _ refl _ _ _ e.index e.pages _ e.words _ e.fault _ e.held,
-      twice_steps _ _ _ _ _ _ _ (twice_moves _ _ _ _ _ _ _ c.loop-i.invariant.1 _ (stop (goal.at.loop-i-preserved c).After-onward-first) _ (stop₂ (goal.at.loop-i-preserved c).After-onward-second)) (early (goal.at.loop-i-preserved c).After-onward-first) _ _ _ _ (seat_serves Lru2 _ _ _ _ _ _ _ w.tied c.requires.0 _ (seat (goal.at.loop-i-preserved c).After-serve-seat)) (low (goal.at.loop-i-preserved c).After-serve-seat) _ (e.fault ∙ ap fault_of (walk_told Lru2 _ _ _ _ _ _ _ _ _ _ w c.requires.0 (more (goal.at.loop-i-preserved c).After-onward-first) _ (seat (goal.at.loop-i-preserved c).After-serve-seat) _ refl)) _ c.earlier_for.ensures,
+      walk_steps Lru2 _ _ _ _ _ _ _ _ _ _ w c.requires.0 c.loop-i-test.true _ (seat (goal.at.loop-i-preserved c).After-serve-seat) _ refl _ _ _ e.index e.pages _ e.words _ e.fault _ e.held,
+      twice_steps _ _ _ _ _ _ _ (twice_moves _ _ _ _ _ _ _ c.loop-i.invariant.1 _ (stop (goal.at.loop-i-preserved c).After-onward-first) _ (stop₂ (goal.at.loop-i-preserved c).After-onward-second)) (early (goal.at.loop-i-preserved c).After-onward-first) _ _ _ _ (seat_serves Lru2 _ _ _ _ _ _ _ w.tied c.requires.0 _ (seat (goal.at.loop-i-preserved c).After-serve-seat)) (low (goal.at.loop-i-preserved c).After-serve-seat) _ (e.fault ∙ ap fault_of (walk_told Lru2 _ _ _ _ _ _ _ _ _ _ w c.requires.0 c.loop-i-test.true _ (seat (goal.at.loop-i-preserved c).After-serve-seat) _ refl)) _ c.earlier_for.ensures,
     )
 
 pub returns : goal.returns
