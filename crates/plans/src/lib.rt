@@ -1,6 +1,7 @@
 // What the service Check answers: the chain of refusals, then the walk of a plan over its trace, with the pages held and their index in arrays of its own.
 // What is wrong with an entry, and else the frame for the requested page, is said by `judge_entry`; the page is put there by `held::put`, as in the walks of the rules.
 #![tactic(auto)]
+
 ghost use Rattle.std.specs.Prelude.{◌≡◌, ◌≤◌, eqb, length, take};
 ghost use Rattle.paging.specs.Lists.{pick};
 ghost use Rattle.paging.specs.Rules.{mark};
