@@ -2,6 +2,7 @@
 // Check is answered by the walk of a plan (`plans::run`).
 // Better of two has one choice, `better`, behind both of its questions.
 #![tactic(auto)]
+
 ghost use Rattle.std.specs.Prelude.{◌≡◌};
 ghost use Rattle.calls.specs.Answers.{answer_numbers};
 ghost use Rattle.plans.specs.Check.{check_of};
