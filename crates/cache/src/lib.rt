@@ -1,6 +1,7 @@
 // The cache record of document 01: its limits, the blank record, the empty cache of a given size, soundness, and the request of a sound record.
 // Feed is in feed.rt, which frame holds a page in frame.rt. What asks something of its caller is private.
 #![tactic(auto)]
+
 mod feed;
 mod frame;
 

@@ -1,6 +1,7 @@
 // Entries of a cache record: the ways to write one, which frame in use holds a page, and which one the rule empties.
 // The record's 256 entries come as an array, beside how many are in use; a number above 256 counts as 256.
 #![tactic(auto)]
+
 ghost use Rattle.std.specs.Prelude.{◌≡◌, take};
 ghost use Rattle.paging.specs.Held.{found};
 ghost use Rattle.paging.specs.Walk.{pages, loaded_at, renewed};

@@ -1,5 +1,6 @@
 // The front end's own record: Feed's thin form, which updates a record that is lent to it, and a form with plain parameters that lends one.
 #![tactic(auto)]
+
 ghost use Rattle.std.specs.Prelude.{◌≡◌};
 ghost use Rattle.cache.specs.Feed.{fed, reply_numbers};
 

@@ -3,6 +3,7 @@
 // Of a caller is asked only what makes a slice: so many words or bytes behind each pointer, words at multiples of 4; no list that is written overlapping another;
 // and nobody else writing to a list, or reading one that is written, before the call returns.
 #![tactic(auto)]
+
 ghost use Rattle.std.specs.Prelude.{◌≡◌};
 ghost use Rattle.paging.specs.Services.{laid};
 

@@ -1,6 +1,7 @@
 // The map of occupied frames: four words of 64 bits, one bit for each frame, low bits first.
 // How many frames are occupied, the next free one, and whether exactly the lowest are.
 #![tactic(auto)]
+
 ghost use Rattle.std.specs.Prelude.{◌≡◌};
 ghost use Rattle.occupancy.specs.Map.{ones_of, lowest_zero, lowest_only};
 

@@ -1,6 +1,7 @@
 // A cache record in words, for callers outside: rule, frames, clock, then the map, each of its words as two, low half first, then page, loaded, last, earlier of each entry.
 // Fewer words than that hold no record: they are read as the blank one, and nothing is put into them.
 #![tactic(auto)]
+
 ghost use Rattle.std.specs.Prelude.{◌≡◌, ◌+◌, ◌≤◌, ◌<◌, length};
 ghost use Rattle.records.specs.Records.{record_length, word_limit, word_from, map_from, entry_from, entries_from, record_of, put_head, put_word, put_map, put_entry, put_entries, record_into};
 

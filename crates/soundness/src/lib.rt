@@ -2,6 +2,7 @@
 // Moments are tested against a set of those seen, pages against the pages after them, so that a full record takes microseconds.
 // Everything here that asks something of its caller is private.
 #![tactic(auto)]
+
 ghost use Rattle.std.specs.Prelude.{◌≡◌, ◌≤◌, take, drop};
 ghost use Rattle.paging.specs.Lists.{mem};
 ghost use Rattle.paging.specs.Walk.{pages};

@@ -1,6 +1,7 @@
 // One request over a record's parts: rule, frames, the map of occupied frames, and the 256 entries.
 // It asks nothing of them; that it is document 01's step wherever they are sound is proved in crate `cache` (`served_steps`).
 #![tactic(auto)]
+
 ghost use Rattle.std.specs.Prelude.{◌≡◌, ◌<◌, set};
 ghost use Rattle.paging.specs.Calls.{frame_limit};
 ghost use Rattle.occupancy.specs.Map.{with_frame};

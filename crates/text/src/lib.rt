@@ -2,6 +2,7 @@
 // In order: a byte, some bytes, a number; the lines of document 01's report that have two numbers.
 // Every function is given a place and answers the place behind what it put. Where the room ends, nothing more is put.
 #![tactic(auto)]
+
 ghost use Rattle.std.specs.Prelude.{◌≡◌, [], ◌∷◌, ◌+◌, ◌%◌, ◌<◌};
 ghost use Rattle.text.specs.Putting.{place_behind, room_behind};
 ghost use Rattle.text.specs.Devices.{Put};

@@ -1,5 +1,6 @@
 // Little-endian 32-bit words in a bundle file's bytes: the word at a byte, several from there on, and the reader over both.
 #![tactic(auto)]
+
 ghost use Rattle.std.specs.Prelude.{◌≡◌, ◌++◌, ◌+◌, ◌*◌, ◌<◌, ◌≤◌, length, drop};
 ghost use Rattle.words.specs.Bytes.{word_at, word_in, words_at};
 
