@@ -31,7 +31,7 @@ use Rattle.cache.specs.Feed.{feeding, fed_plan, fed_faults}
 use Rattle.cache.proofs.Soundness.{fresh_in_order, fresh_empty}
 use Rattle.cache.proofs.Feeding.{feeding_gives_the_plan, feeding_gives_the_count}
 use Rattle.counts.specs.Counts.{count_of, plan_tests, plan_answer, plan_words}
-use Rattle.counts.proofs.Chains.{count_open, same_answer}
+use Rattle.counts.proofs.Chains.{count_open, same_answer_lem}
 
 -- an answer of faults comes through an open gate
 answer_open : (g : Gate) (f x : ℕ) → through g (Faults x) ≡ Faults f → (g ≡ Open) × (x ≡ f)
@@ -82,7 +82,7 @@ module _ (rule n : ℕ) (trace words : List ℕ) (f : ℕ) (said : plan_answer r
 
   -- COUNT answers the same number
   pub count_answers_the_same : count_of rule n trace ≡ Faults f
-  count_answers_the_same = same_answer rule n trace words accepted.0 ∙ said
+  count_answers_the_same = same_answer_lem rule n trace words accepted.0 ∙ said
 
   -- FEEDING the trace from an empty cache of rule 1, 2 or 4 gives that plan and that number
   module _ (feeds : feedable rule ≡ true) where

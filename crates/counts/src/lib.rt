@@ -1,5 +1,6 @@
 // The services Count and Write a plan, for all four rules: each rule has a crate with its walk over a whole trace.
 #![tactic(auto)]
+
 ghost use Rattle.std.specs.Prelude.{◌≡◌};
 ghost use Rattle.paging.specs.Rules.{rule_numbered, named};
 ghost use Rattle.paging.specs.Calls.{trace_tests, rule_tests};
