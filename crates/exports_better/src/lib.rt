@@ -1,5 +1,6 @@
 // Better of two for callers outside: the verdict, and the words of the plan that it names. How an answer is told, and what is asked of a caller, stands in `laying`.
 #![tactic(auto)]
+
 ghost use Rattle.std.specs.Prelude.{◌≡◌};
 ghost use Rattle.judge.specs.Better.{better_of, better_words};
 ghost use Rattle.paging.specs.Services.{laid};

@@ -1,5 +1,6 @@
 // Count, Write a plan and Check for callers outside. How an answer is told, and what is asked of a caller, stands in `laying`.
 #![tactic(auto)]
+
 ghost use Rattle.std.specs.Prelude.{◌≡◌};
 ghost use Rattle.counts.specs.Counts.{count_of, plan_answer, plan_words};
 ghost use Rattle.plans.specs.Check.{check_of};
