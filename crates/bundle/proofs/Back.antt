@@ -1,6 +1,6 @@
 -- Words to bytes and back: reading the bytes of words gives the words, the bytes of the words read are the bytes, and words of bytes are below 2^32.
 -- Assumes nothing.
-use mathlib.Core.Path.{◌≡◌, refl, ap, ap₂, ◌∙◌}
+use mathlib.Core.Path.{◌≡◌, refl, sym, ap, ap₂, subst, ◌∙◌}
 use mathlib.Core.List.{List, [], ◌∷◌, ◌++◌, append_assoc}
 use Prim.Native.Nat.{ℕ, zero, suc, ◌+◌, ◌*◌, ◌/◌, ◌%◌, ◌<◌}
 use native.Mathlib.Omega.{arith}
@@ -66,7 +66,7 @@ unfolding words_at bytes_in
 words_back [] rest b = refl
 words_back (w ∷ words) rest b =
     let e : bytes_of w ++ bytes_in words ++ rest ≡ bytes_of w ++ (bytes_in words ++ rest) = append_assoc (bytes_of w) (bytes_in words) rest in
-    rw e
+    subst (λ (xs : List ℕ). words_at xs 0 (suc (length words)) ≡ w ∷ words) (sym e)
     (ap₂ (λ (x : ℕ) (xs : List ℕ). x ∷ xs)
     (word_back w (bytes_in words ++ rest) b.0)
     (words_behind (bytes_of w) (bytes_in words ++ rest) 0 (length words) ∙ words_back words rest b.1))

@@ -2,6 +2,7 @@
 // Reading copies only what `reading` has judged whole; writing judges the call before it writes anything.
 // In order: reading; words and sections to bytes; writing; document 01's numbers of a writing.
 #![tactic(auto)]
+
 ghost use Rattle.std.specs.Prelude.{◌≡◌, ◌+◌, ◌*◌, ◌%◌, ◌≤◌, length};
 ghost use Rattle.paging.specs.Calls.{request_limit, gate};
 ghost use Rattle.reading.specs.Reading.{read_of};

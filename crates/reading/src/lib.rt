@@ -1,6 +1,7 @@
 // What reading a bundle file of document 01 answers: its sizes and counts, or the first refusal. Nothing is copied here; `bundle::read` copies what was judged.
 // In order: a word by the reader of `words`; the gates of a file, front to back; the answer; document 01's numbers of it.
 #![tactic(auto)]
+
 ghost use Rattle.std.specs.Prelude.{◌≡◌, ◌+◌, ◌*◌, ◌/◌, ◌<◌, ◌≤◌, length};
 ghost use Rattle.paging.specs.Calls.{request_limit, gate, first_mark};
 ghost use Rattle.paging.specs.declared.Gate.TheVariants.{No};
