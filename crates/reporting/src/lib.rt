@@ -1,6 +1,7 @@
 // The text of document 01's report, from the bytes of a bundle file into a lent room.
 // In order: the lines; the report.
 #![tactic(auto)]
+
 ghost use Rattle.std.specs.Prelude.{◌≡◌, length, take};
 ghost use Rattle.paging.specs.Services.{laid};
 ghost use Rattle.text.specs.Devices.{Put};
