@@ -1,5 +1,6 @@
 // The report for callers outside. How an answer is told, and what is asked of a caller, stands in `laying`.
 #![tactic(auto)]
+
 ghost use Rattle.std.specs.Prelude.{◌≡◌, length};
 ghost use Rattle.paging.specs.Services.{laid};
 ghost use Rattle.reporting.specs.Report.{report_of};

@@ -8,12 +8,13 @@ use crate::show;
 use cache::{Cache, Fed, Reply};
 use paging::{Gate, Page};
 use records::WORDS;
+use std::io;
 
-fn show_refusal(number: u32, place: u32) {
-    io::write_all(1, b" refused");
-    show::number(number);
-    io::write_all(1, b" at");
-    show::number(place);
+fn show_refusal(rt: &impl Print, number: u32, place: u32) -> io::Result<()> {
+    rt.write_all(b" refused")?;
+    show::number(rt, number)?;
+    rt.write_all(b" at")?;
+    show::number(rt, place)
 }
 
 // Document 01's numbers of a reply: a refusal's number and place, the kind, and the page dropped.
@@ -22,22 +23,19 @@ fn told(reply: Reply) -> [u32; 4] {
     [n.number, n.place, n.kind, n.page]
 }
 
-fn show_reply(told: [u32; 4]) {
+fn show_reply(rt: &impl Print, told: [u32; 4]) -> io::Result<()> {
     let kind = told[2];
     if told[0] != 0 {
-        show_refusal(told[0], told[1]);
-        return;
+        return show_refusal(rt, told[0], told[1]);
     }
     if kind == 2 {
-        io::write_all(1, b" dropped");
-        show::number(told[3]);
-        return;
+        rt.write_all(b" dropped")?;
+        return show::number(rt, told[3]);
     }
     if kind == 1 {
-        io::write_all(1, b" loaded");
-        return;
+        return rt.write_all(b" loaded");
     }
-    io::write_all(1, b" hit");
+    rt.write_all(b" hit")
 }
 
 // Whether two lists of one length are the same.
@@ -55,14 +53,13 @@ fn same_records(a: &[u32; WORDS], b: &[u32; WORDS]) -> bool {
     same(a, b)
 }
 
-fn show_agreed(replies: bool, next: bool) {
+fn show_agreed(rt: &impl Print, replies: bool, next: bool) -> io::Result<()> {
     if replies {
         if next {
-            io::write_all(1, b", both agree");
-            return;
+            return rt.write_all(b", both agree");
         }
     }
-    io::write_all(1, b", NOT AGREED");
+    rt.write_all(b", NOT AGREED")
 }
 
 // The next record goes into words, the reply into numbers.
@@ -84,24 +81,34 @@ fn in_place(record: &[u32; WORDS], page: u32, next: &mut [u32; WORDS]) -> [u32; 
 }
 
 // One request both ways.
-fn feed_both(was: &[u32; WORDS], page: u32, record: &mut [u32; WORDS]) {
+fn feed_both(
+    rt: &impl Print,
+    was: &[u32; WORDS],
+    page: u32,
+    record: &mut [u32; WORDS],
+) -> io::Result<()> {
     let mut other = [0u32; WORDS];
     let a = by_value(was, page, &mut other);
     let b = in_place(was, page, record);
-    show_reply(b);
+    show_reply(rt, b)?;
     if same_records(was, record) {
-        io::write_all(1, b", record as it was");
+        rt.write_all(b", record as it was")?;
     }
-    show_agreed(same(&a, &b), same_records(&other, record));
+    show_agreed(rt, same(&a, &b), same_records(&other, record))
 }
 
 // page, for the record of the line before, or page; record
-pub(crate) fn feed(line: Line, words: &[u32; 16500], record: &mut [u32; WORDS]) {
+pub(crate) fn feed(
+    rt: &impl Print,
+    line: Line,
+    words: &[u32; 16500],
+    record: &mut [u32; WORDS],
+) -> io::Result<()> {
     if line.first != 0 {
         take(part(words, line.first, 1 + WORDS), record);
     }
     let was = *record;
-    feed_both(&was, words[0], record);
+    feed_both(rt, &was, words[0], record)
 }
 
 // What two requests of a kept record came to.
@@ -173,23 +180,27 @@ fn same_replies(a: Replies, b: Replies) -> bool {
     same(&one, &other) && same(&two, &last)
 }
 
-fn show_both(two: Replies, page: u32) {
+fn show_both(rt: &impl Print, two: Replies, page: u32) -> io::Result<()> {
     let one = two.first;
     let other = two.second;
-    show_reply(one);
-    io::write_all(1, b",");
-    show::number(page);
-    show_reply(other);
+    show_reply(rt, one)?;
+    rt.write_all(b",")?;
+    show::number(rt, page)?;
+    show_reply(rt, other)
 }
 
 // page page: two requests of a kept record, and both by value
-pub(crate) fn twice(words: &[u32; 16500], record: &mut [u32; WORDS]) {
+pub(crate) fn twice(
+    rt: &impl Print,
+    words: &[u32; 16500],
+    record: &mut [u32; WORDS],
+) -> io::Result<()> {
     let was = *record;
     let mut other = [0u32; WORDS];
     let a = both_by_value(&was, words[0], words[1], &mut other);
     let b = both_in_place(&was, words[0], words[1], record);
-    show_both(b, words[1]);
-    show_agreed(same_replies(a, b), same_records(&other, record));
+    show_both(rt, b, words[1])?;
+    show_agreed(rt, same_replies(a, b), same_records(&other, record))
 }
 
 // record, for the requests of the lines after
@@ -197,32 +208,33 @@ pub(crate) fn take(words: &[u32], record: &mut [u32; WORDS]) {
     records::record_into(records::record_of(words), record);
 }
 
-fn show_gate(gate: Gate) {
+fn show_gate(rt: &impl Print, gate: Gate) -> io::Result<()> {
     match gate {
-        Gate::Open => {
-            io::write_all(1, b" taken");
-        }
-        Gate::No(refusal) => {
-            show_refusal(refusal.number(), refusal.place());
-        }
+        Gate::Open => rt.write_all(b" taken"),
+        Gate::No(refusal) => show_refusal(rt, refusal.number(), refusal.place()),
     }
 }
 
-fn fresh(rule: u32, frames: u32, record: &mut [u32; WORDS]) {
+fn fresh(rt: &impl Print, rule: u32, frames: u32, record: &mut [u32; WORDS]) -> io::Result<()> {
     let f = Cache::fresh(rule, frames);
     records::record_into(f.cache, record);
     let gate = f.gate;
-    show_gate(gate);
+    show_gate(rt, gate)
 }
 
 // rule frames
-pub(crate) fn new(words: &[u32; 16500], record: &mut [u32; WORDS]) {
+pub(crate) fn new(
+    rt: &impl Print,
+    words: &[u32; 16500],
+    record: &mut [u32; WORDS],
+) -> io::Result<()> {
     let mut blank = [0u32; WORDS];
     records::record_into(Cache::blank(), &mut blank);
-    fresh(words[0], words[1], record);
+    fresh(rt, words[0], words[1], record)?;
     if same_records(&blank, record) {
-        io::write_all(1, b", the blank record");
+        rt.write_all(b", the blank record")?;
     }
+    Ok(())
 }
 
 // The pages from one up to another, which isn't fed itself.
@@ -234,15 +246,20 @@ fn feed_each(from: u32, to: u32, record: &mut [u32; WORDS]) {
 }
 
 // What stands before the entries: rule, frames, clock, and the map.
-fn show_front(record: &[u32; WORDS]) {
+fn show_front(rt: &impl Print, record: &[u32; WORDS]) -> io::Result<()> {
     for i in 0..11 {
-        show::number(record[i]);
+        show::number(rt, record[i])?;
     }
+    Ok(())
 }
 
 // page page: feeds each page from the first up to the second, if there are any, and shows what then stands before the entries
-pub(crate) fn map(words: &[u32; 16500], record: &mut [u32; WORDS]) {
+pub(crate) fn map(
+    rt: &impl Print,
+    words: &[u32; 16500],
+    record: &mut [u32; WORDS],
+) -> io::Result<()> {
     feed_each(words[0], words[1], record);
-    io::write_all(1, b" :");
-    show_front(record);
+    rt.write_all(b" :")?;
+    show_front(rt, record)
 }

@@ -1,5 +1,6 @@
 // Reads a line byte by byte. The name is printed. After its colon the first letter says what is asked; numbers go one behind the other into words, - is the mark, 7*9 is nine sevens, and each of the first three ; is a cut.
 use paging::MARK;
+use std::io;
 
 // What has been read of a line: its stage, the letter, the number being read and the one that is to be repeated, the next number's place, and the first three cuts.
 #[derive(Clone, Copy)]
@@ -36,15 +37,15 @@ pub(crate) fn begun() -> Line {
 }
 
 // A name's byte is printed; the colon ends the name.
-fn named(line: Line, byte: u8) -> Line {
+fn named(rt: &impl Print, line: Line, byte: u8) -> io::Result<Line> {
     let mut next = line;
     if byte == b':' {
         next.stage = BETWEEN;
-        return next;
+        return Ok(next);
     }
     let one = [byte];
-    io::write_all(1, &one);
-    next
+    rt.write_all(&one)?;
+    Ok(next)
 }
 
 fn word(number: u64) -> u32 {
@@ -125,22 +126,27 @@ fn sign(line: Line, byte: u8) -> Line {
     next
 }
 
-pub(crate) fn step(line: Line, byte: u8, words: &mut [u32; 16500]) -> Line {
+pub(crate) fn step(
+    rt: &impl Print,
+    line: Line,
+    byte: u8,
+    words: &mut [u32; 16500],
+) -> io::Result<Line> {
     if line.stage == NAME {
-        return named(line, byte);
+        return named(rt, line, byte);
     }
     if byte == b';' {
-        return cut(ended(line, words));
+        return Ok(cut(ended(line, words)));
     }
     if byte < b'*' {
-        return ended(line, words);
+        return Ok(ended(line, words));
     }
     if b'0' <= byte {
         if byte <= b'9' {
-            return digit(line, byte);
+            return Ok(digit(line, byte));
         }
     }
-    sign(line, byte)
+    Ok(sign(line, byte))
 }
 
 // The words from one place to another; none, if there are none.

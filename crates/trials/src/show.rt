@@ -1,25 +1,26 @@
 // What lines print: numbers and words.
 use paging::MARK;
+use std::io;
 
-pub(crate) fn end() {
-    io::write_all(1, b"\n");
+pub(crate) fn end(rt: &impl Print) -> io::Result<()> {
+    rt.write_all(b"\n")
 }
 
-pub(crate) fn number(number: u32) {
-    io::write_all(1, b" ");
-    io::print_decimal(1, number as u64);
+pub(crate) fn number(rt: &impl Print, number: u32) -> io::Result<()> {
+    rt.write_all(b" ")?;
+    rt.print(number)
 }
 
-pub(crate) fn word(word: u32) {
+pub(crate) fn word(rt: &impl Print, word: u32) -> io::Result<()> {
     if word == MARK {
-        io::write_all(1, b" -");
-        return;
+        return rt.write_all(b" -");
     }
-    number(word);
+    number(rt, word)
 }
 
-pub(crate) fn words(words: &[u32]) {
+pub(crate) fn words(rt: &impl Print, words: &[u32]) -> io::Result<()> {
     for i in 0..words.len() {
-        word(words[i]);
+        word(rt, words[i])?;
     }
+    Ok(())
 }
