@@ -2,25 +2,41 @@
 
     python3 tests/edits.py [CRATE..]
 
-`rt` applies all replacements of a file `crates/NAME/must-fail/FILE.edit` together and says only that the file was refused. What the prover said of it stands in `target/must-fail/NAME/FILE/.log`, function by function, and is read here.
+`rt` applies all replacements of a file `crates/NAME/must-fail/FILE.edit` together and says only that the file was refused, and where first. So the kit's prover is asked once more: each file is tried on a copy of the crate, over what `rt`
+keeps in out/ of the crate and of those below (it is brought up to date first), and all that is said is read here, function by function. It goes to `target/edits/NAME/FILE.log`, and is taken from there where nothing that the prover read has changed since.
 Each wrong program of a file is headed by a line `# label: what is wrong.`; a file that holds one may leave the label out, and its name is the label.
-- A replacement inside a function of src/, its contract included, asks for an error in that function's own proof or, where it has no proof file, for a note in it that a fact is not proved.
+- A replacement inside a function of src/, its contract included, asks for an error in that function's own proof or for a note in the function that a fact is not proved.
 - A replacement elsewhere (a definition, a statement, a const) says by a line `breaks: NAME` which law or function has such an error; a function is named as in the log, without the crate.
   Such programs stand alone in their file, or share one with their like where each names another law or function: one that the others do not touch, as a case of its own.
-An error that only follows from another ("was not admitted") doesn't count. A proof that no longer fits the code shows nothing, so its program fails: one that names a part that is gone ("has no `Need-..`"), whose parts are others than are put together (`NAME-spec`), or whose loop has other locals (`Inv-..`, `μ-..`).
+An error that only follows from another ("was not admitted") doesn't count. A proof that no longer fits the code shows nothing, so its program fails: one that names a goal or a fact that is gone ("has no `returns-..`", "has no field"), whose
+parts are others than are put together (`NAME_spec`), or whose loop has other locals (an error in Invariants.antt).
 One error never serves two programs: a file changes a function once, and not beside a change of the contract of what it calls.
 
 Then docs/CONTRACTS.md: each row of its tables names two or more wrong programs that there are, and each public function has a row. Not where crates are named: then only their edits are judged.
 Prints a line for each program, and for each row that fails, and `N passed, M failed` as its last line.
 """
 
+import concurrent.futures
 import dataclasses
+import hashlib
+import os
 import pathlib
 import re
+import shutil
+import subprocess
 import sys
+import tempfile
 
-FOLLOWS = "was not admitted"
-MISFIT = "has no `Need-"
+from tally import ROOT
+
+sys.path.insert(0, str(ROOT / "tools"))
+import building  # noqa: E402
+
+FOLLOWS = re.compile(r"not admitted|was rejected|(was|were) not checked")
+MISFIT = re.compile(r"has no `|has no field|is not in scope")
+PROOFS = ("Proof.antt", "Answers.antt", "Invariants.antt")  # of one function
+PARTS = ("src", "specs", "proofs")
+MEMORY = 2_500_000  # kilobytes that a check may take
 
 
 class Wrong(Exception):
@@ -90,7 +106,7 @@ def label_of(line):
 
 
 def place_changes(crate, programs):
-    """Applies the replacements in order, as `rt` does, and notes the function that each lies in."""
+    """Applies the replacements in order, as `rt` does, notes the function that each lies in, and answers the new texts."""
     texts = {}
     for program in programs:
         for file, old, new in program.changes:
@@ -100,6 +116,7 @@ def place_changes(crate, programs):
                 raise Wrong(f"{file} has no text {old!r}")
             program.places.append(function_at(file, text, text.count("\n", 0, at) + 1))
             texts[file] = text[:at] + new + text[at + len(old) :]
+    return texts
 
 
 def function_at(file, text, line):
@@ -156,25 +173,137 @@ def public_functions(crate):
                 yield function
 
 
-# The logs
+# The prover
 
 
-def errors_of(log, folder):
+def bring_up_to_date(root, only):
+    """Has `rt` prove what it has not kept: all crates, or these."""
+    whole = [["rt", "all", "check", "--jobs", str(lanes())]], [root]
+    each = [["rt", "check"]] * len(only), [root / "crates" / name for name in only]
+    for words, folder in zip(*(each if only else whole)):
+        if not folder.is_dir():
+            raise Wrong(f"there is no crate {folder.name}")
+        done = subprocess.run(words, cwd=folder, stdin=subprocess.DEVNULL, stdout=subprocess.PIPE, stderr=subprocess.STDOUT, text=True, errors="replace")
+        if done.returncode != 0:
+            print(done.stdout)
+            raise Wrong(f"`{' '.join(words)}` failed in {folder}")
+
+
+def lanes():
+    """How many checks at a time: one a core, and no more than memory holds."""
+    free = re.search(r"MemAvailable: +(\d+)", pathlib.Path("/proc/meminfo").read_text())
+    return max(1, min(os.cpu_count() or 1, int(free[1]) // MEMORY if free else 1))
+
+
+def told(root, crate, edit, texts):
+    """What the prover says of a crate with these texts in place of its own: the log, or the log of an earlier run over the same files."""
+    log = root / "target" / "edits" / crate.name / f"{edit.stem}.log"
+    below = [name for name in building.reached([crate.name], root) if name != crate.name]
+    stamp = stamp_of(root, crate, texts, below)
+    if log.is_file():
+        first, _, said = log.read_text().partition("\n")
+        if first == stamp:
+            return said
+    said = checked(root, crate, texts, below)
+    # Without a verdict, as of a check that was killed, it is asked again.
+    first = stamp if last_line(said).startswith("logic=") else "no verdict"
+    building.put_in_place(log, lambda new: new.write_text(f"{first}\n{said}"))
+    return said
+
+
+def stamp_of(root, crate, texts, below):
+    """The sum of all that the prover reads."""
+    files = {str(path.relative_to(crate)): path.read_bytes() for part in PARTS for path in sorted((crate / part).rglob("*")) if path.is_file()}
+    files.update((file, text.encode()) for file, text in texts.items())
+    built = []
+    for name in below:
+        note = root / "crates" / name / "out" / "rlib" / "stamp"
+        if not note.is_file():
+            raise Wrong(f"the library {name} isn't built")
+        built.append(note.read_text())
+    kit = subprocess.run(["rt", "version"], capture_output=True, text=True).stdout
+    return hashlib.sha256(repr([kit, is_static(root, crate.name), sorted(files.items()), built]).encode()).hexdigest()
+
+
+def is_static(root, name):
+    return re.search(rf"^{name}\s+staticlib\b", (root / "crates.txt").read_text(), re.M) is not None
+
+
+def checked(root, crate, texts, below):
+    """Tries a copy of the crate with these texts, as `rt` tries an edit."""
+    with tempfile.TemporaryDirectory(prefix="edit-") as folder:
+        copy = pathlib.Path(folder)
+        for part in PARTS:
+            if (crate / part).is_dir():
+                shutil.copytree(crate / part, copy / part)
+        for file, text in texts.items():
+            (copy / file).write_text(text)
+        words = words_of(root, crate, below)
+        kept = crate / "out" / "incremental"
+        if kept.is_dir():
+            shutil.copytree(kept, copy / "kept", copy_function=linked)
+            words += ["--incremental", "kept"]
+        for _ in range(2):
+            done = subprocess.run(words, cwd=copy, stdin=subprocess.DEVNULL, stdout=subprocess.PIPE, stderr=subprocess.STDOUT, text=True, errors="replace")
+            # One that was killed, most likely for memory, is tried once more.
+            if done.returncode >= 0:
+                break
+    return done.stdout
+
+
+def words_of(root, crate, below):
+    kit = building.kit("rt")
+    program = (crate / "src" / "main.rt").is_file()
+    words = [str(kit / "bin/rattle"), "check", "--crate-name", crate.name, "src/main.rt" if program else "src/lib.rt", "--jobs", "1"]
+    words += ["--extern", f"std={kit}/rlibs/std.rlib", "-L", f"dependency={kit}/rlibs"]
+    for name in building.listed(root)[crate.name]:
+        built = f"{root}/crates/{name}/out/rlib" if name in below else f"{kit}/rlibs"
+        words += ["--extern", f"{name}={built}/{name}.rlib"]
+    for name in below:
+        words += ["-L", f"dependency={root}/crates/{name}/out/rlib"]
+    words += ["--antt-project", f"{kit}/rattle/logic/antt-project.json", "--logic-built", f"{kit}/logic_built"]
+    return words + ["--crate-type", "staticlib"] * is_static(root, crate.name)
+
+
+def linked(one, other):
+    """A second name for what was proved, which the prover replaces and never writes into; a copy of what it does write."""
+    try:
+        if one.endswith(".oantt"):
+            return os.link(one, other)
+    except OSError:
+        pass
+    return shutil.copy2(one, other)
+
+
+# What it says
+
+
+def last_line(said):
+    return said.rstrip().rpartition("\n")[2]
+
+
+def errors_of(said):
     """The errors of a log, and its notes of facts that are not proved, which have no name."""
+    last = last_line(said)
+    if last.startswith("logic=proved"):
+        raise Wrong("all is still proved")
+    if not last.startswith("logic=not-proved"):
+        told = next((line for line in said.splitlines() if ": error" in line), last)
+        raise Wrong(f"the prover came to no verdict: {told}")
     found = []
-    for line in log.read_text().splitlines():
+    for line in said.splitlines():
         error = re.match(r"(\S+?):(\d+):\d+: error: (?:`([^`]*)`: )?(.*)", line)
         note = re.match(r"note: (\S+?):(\d+):\d+: ()(it is not proved that .*)", line)
-        if said := error or note:
-            path, number, name, message = said.groups()
-            found.append(Error(path.split(folder)[-1], int(number), name or "", message))
+        if at := error or note:
+            path, number, name, message = at.groups()
+            found.append(Error(path.removeprefix("./"), int(number), name or "", message))
     return found
 
 
 def own_error(errors, function):
     """The first error at a fact of the function's own: in its proof, or a note in its lines."""
-    proof = f"proofs/{function.name.replace('::', '/')}/Proof.antt"
-    own = [e for e in errors if e.file == proof]
+    folder = f"proofs/{function.name.replace('::', '/')}/"
+    own = [e for e in errors if e.file in [folder + name for name in PROOFS]]
     if any(is_misfit(e, function) for e in own):
         raise Wrong(f"the proof of {function.name} no longer fits the code")
     own += [e for e in errors if e.file == function.file and function.first <= e.line <= function.last]
@@ -182,17 +311,21 @@ def own_error(errors, function):
 
 
 def is_misfit(error, function):
-    whole = function.short().replace("_", "-") + "-spec"
-    frame = error.name == whole or error.name.startswith(("Inv-", "μ-"))
-    return MISFIT in error.message or (frame and FOLLOWS not in error.message)
+    """Whether what the proof is written for isn't there any more, which no fact decides."""
+    frame = error.name == f"{function.short()}_spec" or error.file.endswith("/Invariants.antt")
+    return MISFIT.search(error.message) is not None or (frame and not FOLLOWS.search(error.message))
 
 
 def law_error(errors, name):
-    return first_fact([e for e in errors if e.name == name and not e.file.endswith("/Proof.antt")], name)
+    return first_fact([e for e in errors if e.name == name and not is_of_function(e)], name)
+
+
+def is_of_function(error):
+    return error.file.rpartition("/")[2] in PROOFS
 
 
 def first_fact(errors, name):
-    facts = [e for e in errors if FOLLOWS not in e.message]
+    facts = [e for e in errors if not FOLLOWS.search(e.message)]
     if not facts:
         raise Wrong(f"{name} has no error of its own")
     return f"{facts[0].file}:{facts[0].line}"
@@ -201,18 +334,13 @@ def first_fact(errors, name):
 # The judgement of a file
 
 
-def judged(root, crate, edit):
-    """A pair for each program of the file: its label, and where it is refused or a `Wrong`."""
+def judged(crate, edit, ask):
+    """A pair for each program of the file: its label, and where it is refused or a `Wrong`. `ask` answers what the prover says of new texts."""
     programs = programs_of(edit) or [Program(edit.stem)]
-    folder = f"target/must-fail/{crate.name}/{edit.stem}/"
-    log = root / folder / ".log"
     try:
-        place_changes(crate, programs)
-        if not log.is_file():
-            raise Wrong(f"no {folder}.log")
+        errors = errors_of(ask(place_changes(crate, programs)))
     except Wrong as problem:
         return [(p.label or edit.name, problem) for p in programs]
-    errors = errors_of(log, folder)
     return [(p.label or edit.name, verdict(crate, programs, p, errors)) for p in programs]
 
 
@@ -245,7 +373,7 @@ def check_form(crate, programs, program, errors):
 
 def broken(crate, errors):
     """The names that a line `breaks:` could have here."""
-    names = {e.name for e in errors if not e.file.endswith("/Proof.antt")}
+    names = {e.name for e in errors if not is_of_function(e)}
     names.update(f.name for file, text in sources(crate).items() for f in functions_of(file, text))
     return ", ".join(name for name in sorted(names) if is_broken(crate, name, errors)) or "none"
 
@@ -335,15 +463,16 @@ class Tally:
 def judge_edits(root, tally, only=()):
     """Judges every program, of these crates only if some are named, and answers the labels of each crate."""
     labels = {}
-    for edit in sorted(root.glob("crates/*/must-fail/*.edit")):
-        crate = edit.parent.parent
-        if only and crate.name not in only:
-            continue
-        known = labels.setdefault(crate.name, set())
-        for label, outcome in judged(root, crate, edit):
-            twice = Wrong("two programs of the crate have this label") if label in known else None
-            tally.note(f"{crate.name}/{label}", twice or outcome)
-            known.add(label)
+    edits = [(edit.parent.parent, edit) for edit in sorted(root.glob("crates/*/must-fail/*.edit"))]
+    edits = [(crate, edit) for crate, edit in edits if not only or crate.name in only]
+    with concurrent.futures.ThreadPoolExecutor(lanes()) as pool:
+        outcomes = pool.map(lambda one: judged(*one, lambda texts: told(root, *one, texts)), edits)
+        for (crate, _), found in zip(edits, outcomes):
+            known = labels.setdefault(crate.name, set())
+            for label, outcome in found:
+                twice = Wrong("two programs of the crate have this label") if label in known else None
+                tally.note(f"{crate.name}/{label}", twice or outcome)
+                known.add(label)
     return labels
 
 
@@ -363,12 +492,17 @@ def judge_contracts(root, labels, tally):
 
 
 def main():
-    root = pathlib.Path(__file__).resolve().parent.parent
     only = sys.argv[1:]
     tally = Tally()
-    labels = judge_edits(root, tally, only)
-    if not only:
-        judge_contracts(root, labels, tally)
+    try:
+        # Nothing that is read may be built anew meanwhile.
+        with building.locked():
+            bring_up_to_date(ROOT, only)
+            labels = judge_edits(ROOT, tally, only)
+        if not only:
+            judge_contracts(ROOT, labels, tally)
+    except Wrong as problem:
+        tally.note("the crates", problem)
     print(f"{tally.passed} passed, {tally.failed} failed")
     return 1 if tally.failed else 0
 

@@ -155,18 +155,25 @@ def two_really_at_once():
     """Two reports begin where the program isn't built but all that it stands on is: one builds it, and both print."""
     with tempfile.TemporaryDirectory() as folder:
         copy = pathlib.Path(folder)
-        for part in ("crates", "tools", "target/stamp"):
-            shutil.copytree(ROOT / part, copy / part)
-        # The libraries are large, and a program adds none.
-        (copy / "target/rlib").symlink_to(ROOT / "target/rlib")
+        for part in ("crates", "tools"):
+            shutil.copytree(ROOT / part, copy / part, ignore=shutil.ignore_patterns("out"))
+        # The libraries are large; `rt` never writes into their files.
+        for built in (ROOT / "crates").glob("*/out/rlib"):
+            shutil.copytree(built, copy / built.relative_to(ROOT), copy_function=linked)
         shutil.copy2(ROOT / "crates.txt", copy)
-        (copy / "target/stamp/report").unlink()
         both = [started(copy, BUNDLE) for _ in range(2)]
         ended = [(*one.communicate(), one.returncode) for one in both]
         for output, told, status in ended:
             case("two at once, built by rt", (status, output) == (0, REPORT), told.decode())
         waited = [b"waiting for another command" in told for _, told, _ in ended]
         case("two at once, one waits", sorted(waited) == [False, True])
+
+
+def linked(one, other):
+    try:
+        os.link(one, other)
+    except OSError:
+        shutil.copy2(one, other)
 
 
 def started(root, *arguments, **more):
@@ -178,19 +185,19 @@ def started(root, *arguments, **more):
 
 RT = """#!/bin/sh
 # Says where the kit is; otherwise notes the call, and fails where another is running or where it is told to.
-[ "$1" = doc ] && { echo "${0%/bin/rt}/docs/guide"; exit; }
-echo "$*" >>"$0.calls"
-mkdir "$0.running" || { echo "rt: two at once FAILED"; exit 1; }
+[ "$1" = doc ] && { echo "${0%/bin/rt}/PAGE.md"; exit; }
+echo "$* in ${PWD##*/}" >>"$0.calls"
+mkdir "$0.running" || { echo "error: two at once"; exit 1; }
 trap 'rmdir "$0.running"' EXIT
 trap '' PIPE
 sleep 0.5
 echo "a note of the prover"
-echo "rt: one proved (1 s)"
-[ -f "$0.fails" ] && { echo "rt: report NOT PROVED (1 s)"; exit 1; }
-echo "rt: report proved (1 s)"
-mkdir -p target/bin
-printf '#!/bin/sh\\ncat >/dev/null\\n%s\\n' "$(cat "$0.prints")" >target/bin/report
-chmod +x target/bin/report
+echo "crate one: modules loaded=0 checked=9"
+[ -f "$0.fails" ] && { echo "fn report::main: not proved"; echo "logic=not-proved"; exit 1; }
+echo "crate report: modules loaded=0 checked=9"
+mkdir -p out
+printf '#!/bin/sh\\ncat >/dev/null\\n%s\\n' "$(cat "$0.prints")" >out/report
+chmod +x out/report
 echo ended >>"$0.ended"
 """
 
@@ -207,13 +214,13 @@ class MadeUp:
     def __init__(self, folder):
         self.root = pathlib.Path(folder) / "project"
         shutil.copytree(ROOT / "tools", self.root / "tools")
-        (self.root / "crates.txt").write_text("one:\nreport: one io libc\nother: one\n")
+        (self.root / "crates.txt").write_text("one:\nreport: one\nother staticlib: one\n")
         for crate in ("one", "report", "other"):
             (self.root / "crates" / crate / "src").mkdir(parents=True)
             (self.root / "crates" / crate / "src" / "lib.rt").write_text("\n")
         self.rt = self.script("kit/bin/rt", RT)
-        self.emulator = self.script(f"kit/on/{platform.machine()}/toolchain/bin/qemu-x86_64", EMULATOR)
-        self.script(f"kit/on/{platform.machine()}/toolchain/lib/ld-linux-x86-64.so.2", "")
+        self.emulator = self.script("kit/toolchain/bin/qemu-x86_64", EMULATOR)
+        self.script("kit/toolchain/lib/ld-linux-x86-64.so.2", "")
         self.bare = self.script("bare/python3", f'#!/bin/sh\nexec {shlex.quote(sys.executable)} "$@"\n').parent
         (self.bare / "cat").symlink_to(shutil.which("cat"))
         self.tell("prints", "echo printed")
@@ -249,6 +256,7 @@ def building():
         case("a wrong file builds nothing", made.calls() == 0)
         status, output, told = made.report()
         case("the first run builds", (status, output, made.calls()) == (0, b"printed\n", 1))
+        case("by one word, in the program's folder", pathlib.Path(f"{made.rt}.calls").read_text() == "run in report\n")
         case("its progress", "crate 1 of 2: one\ncrate 2 of 2: report\n" in told and "note of the prover" not in told, told)
         case("its log", "a note of the prover\n" in (made.root / "target/report.log").read_text())
         case("the second doesn't", made.report() == (0, b"printed\n", "") and made.calls() == 1)
@@ -273,7 +281,7 @@ def rebuilding(made):
     source.write_text("// wrong\n")
     made.tell("fails", "")
     for _ in range(2):
-        trouble("not proved", made.report(), "rt: report NOT PROVED (1 s); all that was said is in")
+        trouble("not proved", made.report(), "fn report::main: not proved; all that was said is in")
     case("what isn't proved is tried again", made.calls() == 7)
     pathlib.Path(f"{made.rt}.fails").unlink()
     several = [started(made.root, BUNDLE, env=made.environment()) for _ in range(4)]

@@ -16,7 +16,7 @@ import shutil
 import signal
 import subprocess
 
-from command import Trouble, reason, say, unstopped
+from command import Trouble, reason, say, shown, unstopped
 
 ROOT = pathlib.Path(__file__).resolve().parent.parent
 BUILT = ROOT / "target" / "built"
@@ -27,7 +27,7 @@ BUILT = ROOT / "target" / "built"
 
 @contextlib.contextmanager
 def locked():
-    """Holds the lock on target/, and answers its number. `rt ci` removes target/, so it is the folder above that is locked."""
+    """Holds the lock on what is built here, and answers its number. It is the top folder that is locked: `rt` itself locks those of the crates."""
     lock = os.open(ROOT, os.O_RDONLY)
     try:
         try:
@@ -90,19 +90,20 @@ def put_in_place(path, make):
 # ---- Building ----
 
 
-def listed():
+def listed(root=ROOT):
     """The crates of crates.txt, each with those that it stands on, which come before it."""
     deps = {}
-    for line in (ROOT / "crates.txt").read_text().splitlines():
-        name, colon, rest = line.split("#")[0].partition(":")
+    for line in (root / "crates.txt").read_text().splitlines():
+        words, colon, rest = line.split("#")[0].partition(":")
         if colon:
-            deps[name.strip()] = rest.split()
+            # Behind the name may stand what kind of crate it is.
+            deps[words.split()[0]] = rest.split()
     return deps
 
 
-def reached(names):
+def reached(names, root=ROOT):
     """These crates and those of this repository that they stand on."""
-    deps = listed()
+    deps = listed(root)
     wanted = set(names)
     for name in reversed(deps):
         if name in wanted:
@@ -132,18 +133,18 @@ class Build:
             self.seen.add(crate)
             say(f"crate {len(self.seen)} of {len(self.crates)}: {crate}")
 
-    def rt(self, *words):
-        """Runs `rt`. It keeps the lock, also where this command is killed; where it is stopped otherwise, `rt` is too."""
+    def rt(self, verb, crate, *flags):
+        """Runs `rt` in a crate's folder. It keeps the lock, also where this command is killed; where it is stopped otherwise, `rt` is too."""
         said = []
         process = None
         try:
             with unstopped():
-                process = self.started(words)
+                process = self.started(crate, [verb, *flags])
             for line in process.stdout:
                 self.log.write(line)
                 self.log.flush()
                 said.append(line)
-                found = re.match(r"rt: (\w+) proved", line)
+                found = re.match(r"crate (\w+): modules ", line)
                 if found:
                     self.proved(found[1])
             status = process.wait()
@@ -154,13 +155,13 @@ class Build:
                 process.wait()
             raise
         if status != 0:
-            told = next((line for line in said if "NOT PROVED" in line or "FAILED" in line), "".join(said[-1:])).strip()
-            raise Trouble(f"the {self.name} isn't built: {told or 'rt failed'}; all that was said is in {self.log.name}")
+            told = next((line for line in said if re.search(r"not proved|no proof|\berror\b", line)), "".join(said[-1:])).strip()
+            raise Trouble(f"the {self.name} isn't built: {shown(told, 200) or 'rt failed'}; all that was said is in {self.log.name}")
 
-    def started(self, words):
+    def started(self, crate, words):
         return subprocess.Popen(
             [self.rt_path, *words],
-            cwd=ROOT,
+            cwd=ROOT / "crates" / crate,
             stdin=subprocess.DEVNULL,
             stdout=subprocess.PIPE,
             stderr=subprocess.STDOUT,
@@ -197,13 +198,13 @@ def rt_path(what):
 
 
 def kit(rt):
-    """The kit's folder for this machine, as `rt` tells it."""
-    guide = subprocess.run([rt, "doc"], capture_output=True, text=True).stdout.strip()
-    return pathlib.Path(guide).parent.parent / "on" / platform.machine()
+    """The kit's folder, where the page lies that `rt` tells to read first."""
+    page = subprocess.run([rt, "doc"], capture_output=True, text=True).stdout.strip()
+    return pathlib.Path(page).parent
 
 
 def to_run(rt, program):
-    """The words that run a built program. It is for x86-64; elsewhere the kit has an emulator."""
+    """The words that run a built program. It is for x86-64; elsewhere it needs an emulator in the kit."""
     if platform.machine() == "x86_64":
         return [program]
     tools = kit(rt) / "toolchain"
