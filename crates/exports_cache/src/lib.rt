@@ -1,6 +1,7 @@
 // Fresh, soundness, Frame and Feed for callers outside, who keep a record in words. How an answer is told, and what is asked of a caller, stands in `laying`.
 // Words too few for a record are refusal 5 where one is read; where one is written they are 6, after every other refusal, and stay as they were.
 #![tactic(auto)]
+
 ghost use Rattle.std.specs.Prelude.{◌≡◌, length};
 ghost use Rattle.paging.specs.Lists.{pick};
 ghost use Rattle.paging.specs.Calls.{gate};

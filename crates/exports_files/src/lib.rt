@@ -1,5 +1,6 @@
 // Bundle files for callers outside: reading and writing. How an answer is told, and what is asked of a caller, stands in `laying`.
 #![tactic(auto)]
+
 ghost use Rattle.std.specs.Prelude.{◌≡◌, length};
 ghost use Rattle.reading.specs.Reading.{read_of};
 ghost use Rattle.bundle.specs.Reading.{requests_left, plan_left};
