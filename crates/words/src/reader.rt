@@ -98,7 +98,8 @@ pub fn word_from(file: &[u8], at: usize) -> Word
 
 // The words from a byte of a file on, by a reader.
 pub fn section_from(file: &[u8], at: usize, count: usize, out: &mut [u32]) -> usize
-    ensures { (result ≡ words_held file.entry.now at count (length out.old)) × (out.new ≡ section_over file.entry.now at count out.old) }
+    ensures held { result ≡ words_held file.now at count (length out.old) }
+    ensures words { out.new ≡ section_over file.now at count out.old }
 {
     section(skip(new(file), at), count, out)
 }

@@ -25,4 +25,4 @@ returns-in-Refused c =
 pub returns-in-Bundle : goal.returns-in-Bundle
 returns-in-Bundle c =
     let d = sections_read c.args.file.now c.args.requests.now c.args.plan.now c.in-Bundle.sizes (read_is (goal.at.returns-in-Bundle c).In-Bundle) in
-    (sym (read_is (goal.at.returns-in-Bundle c).In-Bundle), c.section_from.ensures.1 ∙ d.0, c.section_from-in-Bundle.ensures.1 ∙ d.1, ap read_numbers (sym (read_is (goal.at.returns-in-Bundle c).In-Bundle)))
+    (sym (read_is (goal.at.returns-in-Bundle c).In-Bundle), c.section_from.ensures.words ∙ d.0, c.section_from-in-Bundle.ensures.words ∙ d.1, ap read_numbers (sym (read_is (goal.at.returns-in-Bundle c).In-Bundle)))
