@@ -145,7 +145,10 @@ def functions_of(file, text):
             indent, public, name = begun.groups()
             body = first_line(lines, number, lambda s: s.endswith(("{", "{}")))
             last = body if lines[body - 1].endswith("{}") else first_line(lines, body, lambda s: s == indent + "}")
-            found.append(Function("::".join(filter(None, [owner, name])), bool(public), file, number, body, last))
+            first = number
+            while lines[first - 2].startswith(indent + "#["):
+                first -= 1  # what the prover says of a function may stand at its first attribute
+            found.append(Function("::".join(filter(None, [owner, name])), bool(public), file, first, body, last))
     return found
 
 
