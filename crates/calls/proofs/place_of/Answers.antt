@@ -1,3 +1,5 @@
+-- `calls::place_of` meets its contract. The loop's invariant: the members passed and the place in the rest make the place in the whole.
+-- Assumes nothing.
 use native.Mathlib.Omega.{arith}
 use borrow.Author.Rules.{rules}
 use Rattle.calls.proofs.Search.{place_here, place_on, place_end}

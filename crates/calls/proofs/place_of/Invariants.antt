@@ -1,3 +1,5 @@
+-- `calls::place_of` meets its contract. The loop's invariant: the members passed and the place in the rest make the place in the whole.
+-- Assumes nothing.
 use mathlib.Core.Path.{◌≡◌}
 use Prim.Native.Nat.{◌+◌, ◌-◌, ◌≤◌}
 use lib.ListN.{length, drop}

@@ -1,3 +1,5 @@
+-- `calls::rule_gate` meets its contract: the number's rule first, then the gate of the trace.
+-- Assumes nothing.
 use Rattle.paging.specs.Calls.{gate, rule_tests}
 use Rattle.calls.proofs.rule_gate.Goals as goal
 

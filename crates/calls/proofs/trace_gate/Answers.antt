@@ -1,3 +1,5 @@
+-- `calls::trace_gate` meets its contract: the three tests in their order.
+-- Assumes nothing.
 use mathlib.Core.Path.{sym, ◌∙◌}
 use borrow.Author.Tests.{lt-ltb}
 use Rattle.paging.specs.Calls.{gate, trace_tests}

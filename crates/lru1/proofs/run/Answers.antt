@@ -1,4 +1,4 @@
--- `lru::run` meets its contract: an open gate gives what the walk asks for.
+-- `lru1::run` meets its contract: an open gate gives what the walk asks for.
 -- Assumes nothing.
 use mathlib.Core.Path.{◌≡◌, sym, ◌∙◌}
 use Rattle.paging.specs.Calls.{gate, trace_tests}

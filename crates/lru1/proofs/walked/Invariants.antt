@@ -1,4 +1,4 @@
--- `lru::walked` meets its contract. The loop's invariant: the walk so far (`Walk`), and the hand with what it goes by (`Lasts`).
+-- `lru1::walked` meets its contract. The loop's invariant: the walk so far (`Walk`), and the hand with what it goes by (`Lasts`).
 -- Assumes nothing.
 use Prim.Native.Nat.{◌-◌}
 use lib.ListN.{length}
