@@ -74,6 +74,7 @@ fn cut(len: usize) -> Gate
 }
 
 // Refusals 9 and 10 as far as the requests' count.
+#[tactic(auto, unfolding(paging::specs::Calls::gate, crate::specs::Reading::head_tests))]
 fn head_gate(file: &[u8]) -> Gate
     ensures { result ≡ gate (head_tests file.now) }
 {
