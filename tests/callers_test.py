@@ -94,9 +94,9 @@ def the_header():
     case("every refusal has its row", {upper(name) for name, _ in in_code} == set(refusals()))
     for name, number in refusals().items():
         case(f"the header's {name}", numbers.pop(name, None) == number)
-    for number, name in re.findall(r"\(eqb number (\d)\) \(Is (\w+)\)", code("paging/specs/Rules.antt")):
+    for number, name in re.findall(r"\(eqb number (\d)\) \(Ok (\w+)\)", code("paging/specs/Rules.antt")):
         case(f"the header's rule {name}", numbers.pop(name.upper(), None) == int(number))
-    for name, kind in re.findall(r"^reply_numbers \(?(\w+).*kind = (\d)", code("cache/specs/Feed.antt"), re.M):
+    for name, kind in re.findall(r"^reply_numbers \(Ok \(?(\w+).*kind = (\d)", code("cache/specs/Feed.antt"), re.M):
         case(f"the header's kind {name}", numbers.pop(name.upper(), None) == int(kind))
     limits = dict(re.findall(r"pub const (\w+): \w+ = (\d+);", code("calls/src/lib.rt")))
     frames, requests = int(limits["FRAMES"]), int(limits["REQUESTS"])

@@ -53,9 +53,10 @@ class Program:
 
 @dataclasses.dataclass(frozen=True)
 class Function:
-    """A function as the log names it, without the crate, and the lines of its file that it takes."""
+    """A function as an edit names it, without the crate, its folder in proofs/, and the lines of its file that it takes."""
 
     name: str
+    folder: str
     public: bool
     file: str
     first: int
@@ -130,26 +131,39 @@ def function_at(file, text, line):
 
 
 def functions_of(file, text):
-    """The functions of a source file in the layout of `rt fmt`, where each ends with a brace as far in as it begins."""
+    """The functions of a source file in the layout of `rt fmt`, where each ends with a brace as far in as it begins. What a trait asks for has no body, and is none."""
     if not file.startswith("src/"):
         return []
     module = module_of(file)
     lines = text.splitlines()
-    found, owner = [], module
+    found, owner, folder = [], module, module
     for number, line in enumerate(lines, 1):
-        if implemented := re.match(r"impl(?:<[^>]*>)? (?:.* for )?(\w+)", line):
-            owner = implemented.group(1)
+        if implemented := re.match(r"impl(?:<[^>]*>)? (?:(.*) for )?(\w+)", line):
+            trait, owner = implemented.groups()
+            folder = owner + folded(trait or "")
         elif line == "}":
-            owner = module
+            owner = folder = module
         elif begun := re.match(r'( *)(pub )?(?:pub\(\w+\) )?(?:extern "C" )?fn (\w+)', line):
             indent, public, name = begun.groups()
+            if lines[first_line(lines, number, lambda s: s.endswith((";", "{", "{}"))) - 1].endswith(";"):
+                continue
             body = first_line(lines, number, lambda s: s.endswith(("{", "{}")))
             last = body if lines[body - 1].endswith("{}") else first_line(lines, body, lambda s: s == indent + "}")
             first = number
             while lines[first - 2].startswith(indent + "#["):
                 first -= 1  # what the prover says of a function may stand at its first attribute
-            found.append(Function("::".join(filter(None, [owner, name])), bool(public), file, first, body, last))
+            found.append(Function(joined("::", owner, name), joined("/", folder.replace("::", "/"), name), bool(public), file, first, body, last))
     return found
+
+
+def folded(trait):
+    """A trait in the name of a folder: `From<Result<(), Refusal>>` is `FromResultUnitRefusal`."""
+    words = re.findall(r"\w+(?!\w*::)|\(\)", re.sub(r"'\w+", "", trait))
+    return "".join("Unit" if word == "()" else word[:1].upper() + word[1:] for word in words)
+
+
+def joined(between, *names):
+    return between.join(filter(None, names))
 
 
 def module_of(file):
@@ -305,8 +319,9 @@ def errors_of(said):
 
 def own_error(errors, function):
     """The first error at a fact of the function's own: in its proof, or a note in its lines."""
-    folder = f"proofs/{function.name.replace('::', '/')}/"
-    own = [e for e in errors if e.file in [folder + name for name in PROOFS]]
+    block, between, name = function.folder.rpartition("/")
+    folders = function.folder, f"{block}{between}+{name}"  # the second where it calls itself
+    own = [e for e in errors if e.file in [f"proofs/{folder}/{proof}" for folder in folders for proof in PROOFS]]
     if any(is_misfit(e, function) for e in own):
         raise Wrong(f"the proof of {function.name} no longer fits the code")
     own += [e for e in errors if e.file == function.file and function.first <= e.line <= function.last]

@@ -40,6 +40,23 @@ fn seven() -> u32
     7
 }
 
+pub trait Third {
+    fn third(&self) -> u32
+        ensures { result ≡ 3 };
+}
+
+impl Third for Pair {
+    fn third(&self) -> u32 {
+        3
+    }
+}
+
+impl From<Result<(), u32>> for Pair {
+    fn from(given: Result<(), u32>) -> Pair {
+        Pair(4, 4)
+    }
+}
+
 pub fn eight() -> u32
     ensures { result ≡ 8 }
 {
@@ -90,6 +107,8 @@ def quietly(work, *arguments):
 SEVEN = ("seven", "src/lib.rt", "    7", "    6")
 EIGHT = ("eight", "src/lib.rt", "seven() + 1", "seven() + 2")
 NINE = ("nine", "src/place.rt", "    9", "    8")
+THIRD = ("third", "src/lib.rt", "    3", "    2")
+FROM = ("from", "src/lib.rt", "Pair(4, 4)", "Pair(4, 5)")
 FIRST = ("first", "src/lib.rt", "self.0", "self.1")
 LIMIT = ("limit", "src/lib.rt", "u32 = 9", "u32 = 8")
 LAW = ("law", "specs/Law.antt", "law = 1", "law = 2")
@@ -139,6 +158,9 @@ def programs_pass():
     four = program(SEVEN) + program(EIGHT) + program(NINE) + program(FIRST)
     log = lines(proof("seven"), proof("eight"), proof("place/nine"), proof("Pair/first"))
     case("four refused by themselves", judged(four, log) == (["seven", "eight", "nine", "first"], []))
+    traits = lines(proof("PairThird/third"), proof("PairFromResultUnitU32/from"))
+    case("two that belong to traits", judged(program(THIRD) + program(FROM), traits) == (["third", "from"], []))
+    case("one that calls itself", judged(program(FIRST), proof("Pair/+first")) == (["first"], []))
     whole = lines(proof("seven", file="Proof.antt"), proof("eight", file="Proof.antt"))
     case("with whole proofs", judged(program(SEVEN) + program(EIGHT), whole) == (["seven", "eight"], []))
     case("a note in a function without proof file", judged(program(SEVEN), note("src/lib.rt", SOURCE, "fn seven")) == (["seven"], []))

@@ -4,6 +4,7 @@
 -- and the plan are walked together, once, over the trace. In order: what is asked of a rule; its faults; arithmetic; the state of a phase; one request; all
 -- of them; the bound.
 -- Assumes nothing.
+use Rattle.std.specs.Prelude.{Ok}
 use mathlib.Core.Path.{◌≡◌, refl, sym, ◌∙◌}
 use mathlib.Core.Logic.{inl, inr}
 use mathlib.Core.Bool.{Bool, true, false}
@@ -19,8 +20,6 @@ use Rattle.paging.specs.Walk.{holds, next, outcomes, faults_in, faults}
 use Rattle.paging.specs.Plans.{after, absent, judged, check_from, check}
 use Rattle.paging.specs.declared.Entry.{Entry}
 use Rattle.paging.specs.declared.Rule.{Rule}
-use Rattle.paging.specs.declared.Gate.TheVariants.{Open}
-use Rattle.paging.specs.declared.Answer.TheVariants.{Faults}
 use Rattle.paging.specs.declared.Refusal.TheVariants.{LentTooShort}
 use Rattle.paging.proofs.Frames.{Ways, ways, outcome_hit, outcome_room, outcome_full}
 use Rattle.bounds.proofs.Pigeonhole.{Among, Within}
@@ -118,7 +117,7 @@ module _ (rule : Rule) (n c : ℕ) (fr : Frugal rule n c) (m : ℕ) where
 
   -- ---- one request, of page p at moment t, with w for the plan's word
 
-  module _ (t f p w : ℕ) (sees : Sees) (held : List ℕ) (es : List Entry) (r b s : ℕ) (lawful : judged m t held p w ≡ Open) (ph : Phase t f es held r b s) where
+  module _ (t f p w : ℕ) (sees : Sees) (held : List ℕ) (es : List Entry) (r b s : ℕ) (lawful : judged m t held p w ≡ Ok tt) (ph : Phase t f es held r b s) where
     plan_served : Served m p held (after m held p w) ph.cov
     plan_served = served m t p w held ph.cov lawful ph.fits ph.kept
 
@@ -159,7 +158,7 @@ module _ (rule : Rule) (n c : ℕ) (fr : Frugal rule n c) (m : ℕ) where
     abbrev Claim : List ℕ → List ℕ → Type 0
     Claim ps ws =
         (t f : ℕ) (past : List ℕ) (es : List Entry) (held : List ℕ) (r b s e q k g : ℕ) → Phase t f es held r b s
-        → c * e < r + suc q → e ≤ n → left rule n t past ps es ≡ suc q + k * (c * n) → check_from m t f held ps ws ≡ Faults g
+        → c * e < r + suc q → e ≤ n → left rule n t past ps es ≡ suc q + k * (c * n) → check_from m t f held ps ws ≡ Ok g
         → suc e + k * d + s ≤ b + g
 
     claim_step : (p w : ℕ) (ps ws : List ℕ) → Claim ps ws → Claim (p ∷ ps) (w ∷ ws)
@@ -179,7 +178,7 @@ module _ (rule : Rule) (n c : ℕ) (fr : Frugal rule n c) (m : ℕ) where
         f' : ℕ
         f' = f + absent p held
 
-        go : (q k : ℕ) (x : Bool) → holds p es ≡ x → judged m t held p w ≡ Open → check_from m (suc t) f' held' ps ws ≡ Faults g
+        go : (q k : ℕ) (x : Bool) → holds p es ≡ x → judged m t held p w ≡ Ok tt → check_from m (suc t) f' held' ps ws ≡ Ok g
             → Phase (suc t) f' es' held' (pick x 0 1 + r) b s → c * e < r + suc q
             → pick x 0 1 + left rule n (suc t) past' ps es' ≡ suc q + k * (c * n) → suc e + k * d + s ≤ b + g
         -- a hit
@@ -206,7 +205,7 @@ module _ (rule : Rule) (n c : ℕ) (fr : Frugal rule n c) (m : ℕ) where
 
   -- ---- the bound
 
-  module _ (trace words : List ℕ) (g : ℕ) (one : 1 ≤ c) (low : 1 ≤ m) (high : m ≤ n) (accepted : check m trace words ≡ Faults g) where
+  module _ (trace words : List ℕ) (g : ℕ) (one : 1 ≤ c) (low : 1 ≤ m) (high : m ≤ n) (accepted : check m trace words ≡ Ok g) where
     full_phase : 1 ≤ c * n
     full_phase = omega (arith, mul-le-mul_right n one)
 

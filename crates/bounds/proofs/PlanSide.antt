@@ -3,6 +3,7 @@
 -- A cover is a list of pages, among which are all that the plan holds. A request lengthens it by one page if the plan faults, and not otherwise; the page
 -- requested and the pages held after it are again among the cover. In order: laws of one entry of a plan; the check, one request at a time; the cover.
 -- Assumes nothing.
+use Rattle.std.specs.Prelude.{Some, None, Ok, Err}
 use mathlib.Core.Path.{◌≡◌, refl}
 use mathlib.Core.Bool.{Bool, true, false}
 use mathlib.Core.List.{List, [], ◌∷◌, ◌++◌}
@@ -14,12 +15,9 @@ use lib.ListN.{length, set, length-set}
 use lib.Seq.{get_or-set_same}
 use borrow.Author.Tests.{le-ltb, ltb-true, ltb-false}
 use Rattle.paging.specs.Lists.{pick, mem, place_of}
-use Rattle.paging.specs.Held.{if_held}
+use Rattle.paging.specs.Held.{if_held, Found}
 use Rattle.paging.specs.Plans.{judged, after, absent, through, check_from}
-use Rattle.paging.specs.declared.Found.TheVariants.{At, Absent}
-use Rattle.paging.specs.declared.Gate.{Gate}
-use Rattle.paging.specs.declared.Gate.TheVariants.{Open, No}
-use Rattle.paging.specs.declared.Answer.TheVariants.{Faults, Refused}
+use Rattle.paging.specs.Refusals.{Gate}
 use Rattle.paging.specs.declared.Refusal.{Refusal}
 use Rattle.paging.specs.declared.Refusal.TheVariants.{LentTooShort, PlanBroken}
 use Rattle.paging.proofs.Lists.{length_snoc}
@@ -27,18 +25,18 @@ use Rattle.paging.proofs.Held.{mem_place, mem_in, found_there, found_nowhere}
 use Rattle.paging.proofs.PlanRule.{after_hit, after_room, after_full}
 use Rattle.bounds.proofs.Pigeonhole.{same, times, Among, Within, same_self, times_snoc, times_set, in_among}
 
-pub refused_faults : (r : Refusal) (g : ℕ) → Refused r ≡ Faults g → ⊥
+pub refused_faults : (r : Refusal) (g : ℕ) → Err r ≡ Ok g → ⊥
 refused_faults r g e = let k : ◌≡◌ {A = ℕ} 0 1 = cc in omega arith
 
 module _ (m p w : ℕ) (held : List ℕ) where
   -- ---- one entry, w, for the request of page p in m frames
 
   -- in a full cache an accepted entry is a held page
-  judged_full : (t : ℕ) → mem p held ≡ false → m ≤ length held → judged m t held p w ≡ Open → mem w held ≡ true
+  judged_full : (t : ℕ) → mem p held ≡ false → m ≤ length held → judged m t held p w ≡ Ok tt → mem w held ≡ true
   unfolding judged
   judged_full t q h e = go (mem w held) (rw (q, le-ltb (length held) m h) at e)
     where
-      go : (b : Bool) → if_held (pick b (At (record { 0 = place_of w held })) Absent) (λ (f : ℕ). Open) (No (PlanBroken t)) ≡ Open → b ≡ true
+      go : (b : Bool) → if_held {A = Gate} (pick {A = Found} b (Some (record { 0 = place_of w held })) None) (λ (f : ℕ). Ok tt) (Err (PlanBroken t)) ≡ Ok tt → b ≡ true
       go true e = refl
       go false e = absurd (let k : ◌≡◌ {A = ℕ} 0 1 = cc in omega arith)
 
@@ -46,18 +44,18 @@ module _ (m : ℕ) where
   -- ---- the check, one request at a time
 
   -- the first entry keeps the plan rule, and the rest is accepted
-  pub check_step : (t f p w : ℕ) (held ps ws : List ℕ) (g : ℕ) → check_from m t f held (p ∷ ps) (w ∷ ws) ≡ Faults g
-      → (judged m t held p w ≡ Open) × (check_from m (suc t) (f + absent p held) (after m held p w) ps ws ≡ Faults g)
+  pub check_step : (t f p w : ℕ) (held ps ws : List ℕ) (g : ℕ) → check_from m t f held (p ∷ ps) (w ∷ ws) ≡ Ok g
+      → (judged m t held p w ≡ Ok tt) × (check_from m (suc t) (f + absent p held) (after m held p w) ps ws ≡ Ok g)
   unfolding check_from
   check_step t f p w held ps ws g e = go (judged m t held p w) e
     where
-      go : (x : Gate) → through x (check_from m (suc t) (f + absent p held) (after m held p w) ps ws) ≡ Faults g
-          → (x ≡ Open) × (check_from m (suc t) (f + absent p held) (after m held p w) ps ws ≡ Faults g)
-      go Open e = (refl, e)
-      go (No r) e = absurd (refused_faults r g e)
+      go : (x : Gate) → through x (check_from m (suc t) (f + absent p held) (after m held p w) ps ws) ≡ Ok g
+          → (x ≡ Ok tt) × (check_from m (suc t) (f + absent p held) (after m held p w) ps ws ≡ Ok g)
+      go (Ok tt) e = (refl, e)
+      go (Err r) e = absurd (refused_faults r g e)
 
   -- the faults so far are among all of them
-  pub check_rises : (ps ws held : List ℕ) (t f g : ℕ) → check_from m t f held ps ws ≡ Faults g → f ≤ g
+  pub check_rises : (ps ws held : List ℕ) (t f g : ℕ) → check_from m t f held ps ws ≡ Ok g → f ≤ g
   unfolding check_from
   check_rises [] ws held t f g e = let q : f ≡ g = cc in omega arith
   check_rises (p ∷ ps) [] held t f g e = absurd (refused_faults LentTooShort g e)
@@ -97,7 +95,7 @@ module _ (m : ℕ) where
   }
 
   -- each request of an accepted plan
-  pub served : (t p w : ℕ) (held cov : List ℕ) → judged m t held p w ≡ Open → length held ≤ m → Within held cov
+  pub served : (t p w : ℕ) (held cov : List ℕ) → judged m t held p w ≡ Ok tt → length held ≤ m → Within held cov
       → Served p held (after m held p w) cov
   served t p w held cov lawful fits within = go (mem p held) (ltb (length held) m) refl refl
     where

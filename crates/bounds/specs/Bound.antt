@@ -3,14 +3,13 @@
 --
 -- In order: the statement, with that addition and, sharper, without it; three small traces on which it is computed. Proved in proofs/Bound.antt.
 -- Assumes nothing.
-use Rattle.std.specs.Prelude.{◌≡◌, refl, List, [], ◌∷◌, ℕ, ◌+◌, ◌-◌, ◌*◌, ◌≤◌}
+use Rattle.std.specs.Prelude.{◌≡◌, refl, List, [], ◌∷◌, ℕ, ◌+◌, ◌-◌, ◌*◌, ◌≤◌, Ok}
 use Rattle.std.proofs.Common.{arith}
 use Rattle.paging.specs.Rules.{mark}
 use Rattle.paging.specs.Walk.{faults}
 use Rattle.paging.specs.Plans.{check}
 use Rattle.paging.specs.declared.Rule.{Rule}
 use Rattle.paging.specs.declared.Rule.TheVariants.{Lru, Fifo}
-use Rattle.paging.specs.declared.Answer.TheVariants.{Faults}
 
 -- ---- the statement
 
@@ -28,7 +27,7 @@ Sharp n m f g = (n - m + 1) * f ≤ n * g
 
 -- so it is for every list of requests and every plan accepted on it
 abbrev pub Bound : (ℕ → ℕ → ℕ → ℕ → Type 0) → Rule → Type 0
-Bound Claim rule = (n m : ℕ) (trace words : List ℕ) (g : ℕ) → Range m n → check m trace words ≡ Faults g → Claim n m (faults rule n trace) g
+Bound Claim rule = (n m : ℕ) (trace words : List ℕ) (g : ℕ) → Range m n → check m trace words ≡ Ok g → Claim n m (faults rule n trace) g
 
 -- the rules for which it holds
 abbrev pub ForBoth : (Rule → Type 0) → Type 0
@@ -42,7 +41,7 @@ sweep = 1 ∷ 2 ∷ 3 ∷ 4 ∷ 1 ∷ 2 ∷ 3 ∷ 4 ∷ []
 pub sweep_plan : List ℕ
 sweep_plan = mark ∷ 1 ∷ 2 ∷ 3 ∷ 4 ∷ 1 ∷ 2 ∷ 3 ∷ []
 
-pub bound_is_met : (check 1 sweep sweep_plan ≡ Faults 8) × ForBoth (λ rule. (3 - 1 + 1) * faults rule 3 sweep ≡ 3 * 8)
+pub bound_is_met : (check 1 sweep sweep_plan ≡ Ok 8) × ForBoth (λ rule. (3 - 1 + 1) * faults rule 3 sweep ≡ 3 * 8)
 unfolding check faults sweep sweep_plan
 bound_is_met = (refl, (refl, refl))
 
@@ -62,7 +61,7 @@ turns = 1 ∷ 2 ∷ 1 ∷ 2 ∷ 1 ∷ 2 ∷ []
 pub turns_plan : List ℕ
 turns_plan = mark ∷ mark ∷ mark ∷ mark ∷ mark ∷ mark ∷ []
 
-pub turns_beyond : (check 2 turns turns_plan ≡ Faults 2) × ForBoth (λ rule. Demanded 1 2 (faults rule 1 turns) 2 → ⊥)
+pub turns_beyond : (check 2 turns turns_plan ≡ Ok 2) × ForBoth (λ rule. Demanded 1 2 (faults rule 1 turns) 2 → ⊥)
 unfolding check faults turns turns_plan
 turns_beyond = (refl, (λ h. omega arith, λ h. omega arith))
 
@@ -77,6 +76,6 @@ stale = 9 ∷ 9 ∷ 1 ∷ 2 ∷ 1 ∷ 2 ∷ 1 ∷ 2 ∷ 1 ∷ 2 ∷ 1 ∷ 2 ∷ 
 pub stale_plan : List ℕ
 stale_plan = mark ∷ mark ∷ mark ∷ 9 ∷ mark ∷ mark ∷ mark ∷ mark ∷ mark ∷ mark ∷ mark ∷ mark ∷ []
 
-pub stale_demanded : (check 2 stale stale_plan ≡ Faults 3) × ForBoth (λ rule. Demanded 2 2 (faults rule 2 stale) 3)
+pub stale_demanded : (check 2 stale stale_plan ≡ Ok 3) × ForBoth (λ rule. Demanded 2 2 (faults rule 2 stale) 3)
 unfolding check faults stale stale_plan
 stale_demanded = (refl, (omega arith, omega arith))

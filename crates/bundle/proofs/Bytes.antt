@@ -1,18 +1,20 @@
--- Laws of words and bytes: how many there are, one word more, and bytes put over others one after another.
+-- Laws of words and bytes: how many there are, one word more, and bytes laid over the front of a room one after another.
 -- Assumes nothing.
+use Rattle.std.specs.Int.{w32, to_le_bytes}
+use Rattle.std.proofs.lemmas.List.{drop_at}
+use borrow.Rule.Slice.PartMut.{mid_of, post_of, put_mid}
 use mathlib.Core.Path.{◌≡◌, refl, sym, ap, ap₂, ◌∙◌}
 use mathlib.Core.List.{List, [], ◌∷◌, ◌++◌, append_assoc, append-nil}
-use Prim.Native.Nat.{ℕ, suc, ◌+◌, ◌*◌, ◌/◌, ◌%◌, ◌≤◌, ◌<◌}
+use Prim.Native.Nat.{ℕ, suc, ◌+◌, ◌*◌, ◌-◌, ◌≤◌, ◌<◌}
 use native.Mathlib.Numerals.{add-one}
 use native.Mathlib.Omega.{arith}
-use lib.ListN.{length, get_or, take, drop, set, length-append, length-take, length-drop, take-append-drop}
-use lib.Seq.{length-take-le, take-suc, take_at, drop-append-add, drop-drop, sets-eq}
+use lib.ListN.{length, get_or, take, drop, length-append, length-drop, drop_of_length-le}
+use lib.Seq.{length-take-le, take-suc, take_at, take_all, drop-drop}
 use Rattle.paging.specs.Services.{laid}
 use Rattle.paging.proofs.Writing.{laid_whole}
 use Rattle.words.specs.Bytes.{words_at}
 use Rattle.words.proofs.Bytes.{length_words}
 use Rattle.bundle.specs.Bytes.{bytes_of, bytes_in, section}
-use Rattle.bundle.specs.Devices.Over.{over}
 
 -- ---- how many
 
@@ -53,58 +55,51 @@ laid_words file at count lent h =
     laid_whole (words_at file at count) lent (rw (length_words file at count) h)
     ∙ ap (λ (k : ℕ). words_at file at count ++ drop k lent) (length_words file at count)
 
--- ---- bytes put over others
+-- ---- bytes laid over the front of a room
 
-pub length_over : (at : ℕ) (xs room : List ℕ) → at + length xs ≤ length room → length (over at xs room) ≡ length room
-length_over at xs room h = simp (length-append, length-take, length-drop) (omega arith)
-
-pub over_none : (at : ℕ) (room : List ℕ) → room ≡ over at (bytes_in []) room
-unfolding bytes_in
-over_none at room =
-    let e : at ≡ at + 0 = omega arith in
-    sym (take-append-drop at room) ∙ ap₂ (λ (a b : List ℕ). a ++ b) (sym (append-nil (take at room))) (ap (λ (k : ℕ). drop k room) e)
-
--- what is put right behind the last
-pub over_next : (at next : ℕ) (xs ys room : List ℕ) → next ≡ at + length xs → next + length ys ≤ length room
-    → over next ys (over at xs room) ≡ over at (xs ++ ys) room
-over_next at next xs ys room n h =
-    let p : length (take at room ++ xs) ≡ next = length-append (take at room) xs ∙ ap (λ (k : ℕ). k + length xs) (length-take-le at room (omega arith)) ∙ sym n in
-    let t : take next (over at xs room) ≡ take at room ++ xs = take_at (take at room ++ xs) (drop (at + length xs) room) next p in
-    let d : drop (next + length ys) (over at xs room) ≡ drop (next + length ys) room =
-    ap (λ (k : ℕ). drop (k + length ys) (over at xs room)) (sym p)
-    ∙ drop-append-add (take at room ++ xs) (drop (at + length xs) room) (length ys)
-    ∙ drop-drop (length ys) (at + length xs) room
-    ∙ ap (λ (k : ℕ). drop (k + length ys) room) (sym n) in
-    let e : next + length ys ≡ at + length (xs ++ ys) = omega (arith, length-append xs ys) in
-    ap₂ (λ (a b : List ℕ). a ++ ys ++ b) t d
-    ∙ ap₂ (λ (a b : List ℕ). a ++ b) (append_assoc (take at room) xs ys) (ap (λ (k : ℕ). drop k room) e)
-
--- four stores are a word's bytes
-pub put_four : (room : List ℕ) (at word : ℕ) → at + 4 ≤ length room
-    → set (set (set (set room at (word % 256)) (at + 1) (word / 256 % 256)) (at + 2) (word / 65536 % 256)) (at + 3) (word / 16777216 % 256)
-    ≡ over at (bytes_of word) room
+-- a word's bytes, as the library has them, over the first four
+pub put_four : (room : List ℕ) (word : ℕ) (bytes : List ℕ) → 4 ≤ length room → bytes ≡ to_le_bytes w32 word → bytes ++ drop 4 room ≡ laid (bytes_of word) room
 unfolding bytes_of
-put_four room at word h =
-    let one : at + 1 ≡ suc at = omega arith in
-    let two : at + 2 ≡ suc (suc at) = omega arith in
-    let three : at + 3 ≡ suc (suc (suc at)) = omega arith in
-    rw (one, two, three) (sets-eq (bytes_of word) room at h)
+put_four room word bytes h e = ap (λ (bs : List ℕ). bs ++ drop 4 room) e ∙ sym (laid_whole (bytes_of word) room h)
+
+-- bytes laid over the front of the part that begins right behind what was laid before
+pub laid_behind : (next : ℕ) (xs ys room old new : List ℕ) → next ≡ length xs → next + length ys ≤ length room → old ≡ laid xs room
+    → new ≡ laid ys (mid_of next (length old - next) old) → put_mid next (length old - next) old new ≡ laid (xs ++ ys) room
+laid_behind next xs ys room old new n h o p =
+    let long : length xs ≤ length room = omega arith in
+    let front : old ≡ xs ++ drop next room = o ∙ laid_whole xs room long ∙ ap (λ (k : ℕ). xs ++ drop k room) (sym n) in
+    let size : length old ≡ length room = omega (arith, ap length front, length-append xs (drop next room), length-drop next room) in
+    let rest : length (drop next old) ≤ length old - next = omega (arith, length-drop next old) in
+    let part : mid_of next (length old - next) old ≡ drop next room =
+    take_all (length old - next) (drop next old) rest ∙ ap (drop next) front ∙ drop_at xs (drop next room) next (sym n) in
+    let fits : length ys ≤ length (drop next room) = omega (arith, length-drop next room) in
+    let put : new ≡ ys ++ drop (length ys) (drop next room) = p ∙ ap (laid ys) part ∙ laid_whole ys (drop next room) fits in
+    let none : post_of next (length old - next) old ≡ [] = drop_of_length-le (drop next old) rest in
+    let end : next + length ys ≡ length (xs ++ ys) = omega (arith, length-append xs ys) in
+    let whole : length (xs ++ ys) ≤ length room = omega arith in
+    let before : take next old ≡ xs = ap (take next) front ∙ take_at xs (drop next room) next (sym n) in
+    ap₂ (λ (a b : List ℕ). a ++ b) before (ap₂ (λ (a b : List ℕ). a ++ b) put none ∙ append-nil _ ∙ ap (λ (bs : List ℕ). ys ++ bs) (drop-drop (length ys) next room))
+    ∙ sym (append_assoc xs ys (drop (next + length ys) room))
+    ∙ ap (λ (k : ℕ). xs ++ ys ++ drop k room) end
+    ∙ sym (laid_whole (xs ++ ys) room whole)
 
 -- one word more of a list
-pub put_next : (room : List ℕ) (at : ℕ) (words : List ℕ) (i : ℕ) → i < length words → at + 4 * length words ≤ length room
-    → over (at + 4 * i) (bytes_of (get_or words i 0)) (over at (bytes_in (take i words)) room) ≡ over at (bytes_in (take (i + 1) words)) room
-put_next room at words i h fits =
+pub laid_word : (room : List ℕ) (words : List ℕ) (i : ℕ) (old new : List ℕ) → i < length words → 4 * length words ≤ length room → old ≡ laid (bytes_in (take i words)) room
+    → new ≡ laid (bytes_of (get_or words i 0)) (mid_of (4 * i) (length old - 4 * i) old) → put_mid (4 * i) (length old - 4 * i) old new ≡ laid (bytes_in (take (i + 1) words)) room
+laid_word room words i old new h fits o p =
     let k : length (take i words) ≡ i = length-take-le i words (omega arith) in
-    let e : at + 4 * i ≡ at + length (bytes_in (take i words)) = omega (arith, length_bytes (take i words)) in
-    let f : at + 4 * i + length (bytes_of (get_or words i 0)) ≤ length room = omega (arith, length_word (get_or words i 0)) in
-    over_next at (at + 4 * i) (bytes_in (take i words)) (bytes_of (get_or words i 0)) room e f
-    ∙ ap (λ (bs : List ℕ). over at bs room) (sym (bytes_more words i h) ∙ ap (λ (j : ℕ). bytes_in (take j words)) (sym (add-one i)))
+    let e : 4 * i ≡ length (bytes_in (take i words)) = omega (arith, length_bytes (take i words)) in
+    let f : 4 * i + length (bytes_of (get_or words i 0)) ≤ length room = omega (arith, length_word (get_or words i 0)) in
+    laid_behind (4 * i) (bytes_in (take i words)) (bytes_of (get_or words i 0)) room old new e f o p
+    ∙ ap (λ (bs : List ℕ). laid bs room) (sym (bytes_more words i h) ∙ ap (λ (j : ℕ). bytes_in (take j words)) (sym (add-one i)))
+
+pub laid_none : (room : List ℕ) → laid (bytes_in []) room ≡ room
+unfolding bytes_in
+laid_none room = laid_whole [] room (omega arith)
 
 -- a count and its words are a section
-pub put_whole : (room : List ℕ) (at : ℕ) (words : List ℕ) → at + 4 + 4 * length words ≤ length room
-    → over (at + 4) (bytes_in words) (over at (bytes_of (length words)) room) ≡ over at (section words) room
+pub laid_section : (words room old new : List ℕ) → 4 + 4 * length words ≤ length room → old ≡ laid (bytes_of (length words)) room
+    → new ≡ laid (bytes_in words) (mid_of 4 (length old - 4) old) → put_mid 4 (length old - 4) old new ≡ laid (section words) room
 unfolding section
-put_whole room at words h =
-    let e : at + 4 ≡ at + length (bytes_of (length words)) = omega (arith, length_word (length words)) in
-    let f : at + 4 + length (bytes_in words) ≤ length room = omega (arith, length_bytes words) in
-    over_next at (at + 4) (bytes_of (length words)) (bytes_in words) room e f
+laid_section words room old new h o p =
+    laid_behind 4 (bytes_of (length words)) (bytes_in words) room old new (sym (length_word (length words))) (omega (arith, length_bytes words)) o p

@@ -3,6 +3,7 @@
 -- In order: the largest file; a written file is accepted with its values; a file that was read is written again.
 -- Which files are accepted is proved in proofs/Accepted.antt, that a file has one reading in proofs/OneReading.antt.
 -- Assumes nothing.
+use Rattle.std.specs.Prelude.{Ok, Err}
 use mathlib.Core.Path.{◌≡◌, refl, sym, ap, ap₂, ◌∙◌}
 use mathlib.Core.Bool.{true, false}
 use mathlib.Core.List.{List, [], ◌∷◌, ◌++◌, append-nil}
@@ -13,26 +14,23 @@ use lib.ListN.{length, take, drop}
 use lib.Seq.{take_at}
 use borrow.Author.Tests.{le-ltb, ltb-false}
 use Rattle.paging.specs.Calls.{frame_limit, request_limit, test, gate, outside, marked, trace_tests}
-use Rattle.paging.specs.declared.Gate.{Gate}
-use Rattle.paging.specs.declared.Gate.TheVariants.{Open, No}
+use Rattle.paging.specs.Refusals.{Gate}
 use Rattle.paging.specs.declared.Refusal.TheVariants.{LentTooShort}
 use Rattle.words.specs.Bytes.{word_at, words_at}
 use Rattle.words.proofs.Bytes.{length_words}
 use Rattle.reading.specs.Reading.{request_count, plan_place, plan_count, file_requests, file_plan, plan_fits, size_tests, sizes_of, read_of}
 use Rattle.reading.specs.declared.Sizes.{Sizes}
-use Rattle.reading.specs.declared.ReadAnswer.TheVariants.{Bundle}
 use Rattle.reading.proofs.Chains.{passes, is_met, inside, first_open, OpenFile, open_file, file_opens, bundle_open}
 use Rattle.bundle.specs.Bytes.{bytes_in}
 use Rattle.bundle.specs.Reading.{requests_left, plan_left}
 use Rattle.bundle.specs.Writing.{file_of, call_tests, write_tests, bytes_by, write_of, room_left}
 use Rattle.bundle.specs.Accepted.{AllBelow}
-use Rattle.bundle.specs.declared.WriteAnswer.TheVariants.{Bytes}
 use Rattle.bundle.proofs.Bytes.{length_bytes, bytes_append}
 use Rattle.bundle.proofs.Chains.{read_done, length_file, call_requests, call_planned, write_done}
 use Rattle.bundle.proofs.Back.{words_behind, words_back, bytes_back, words_append, file_words}
 
 -- "The largest file is 64,020 bytes"
-pub no_longer_file : (file : List ℕ) (a b : ℕ) (sizes : Sizes) → read_of file a b ≡ Bundle sizes → length file ≤ 64020
+pub no_longer_file : (file : List ℕ) (a b : ℕ) (sizes : Sizes) → read_of file a b ≡ Ok sizes → length file ≤ 64020
 no_longer_file file a b sizes e =
     let d : OpenFile file a b = open_file file a b (bundle_open file a b sizes e).0 in
     omega (arith, d.form.whole, d.form.requests, d.form.planned)
@@ -45,7 +43,7 @@ heads e = ((cc), (cc), (cc), (cc), (cc))
 head_tail : {a p : ℕ} {xs ys : List ℕ} → a ∷ xs ≡ p ∷ ys → (a ≡ p) × (xs ≡ ys)
 head_tail e = ((cc), (cc))
 
-module _ (n m : ℕ) (trace plan : List ℕ) (o : gate (call_tests n m trace (length plan)) ≡ Open) where
+module _ (n m : ℕ) (trace plan : List ℕ) (o : gate (call_tests n m trace (length plan)) ≡ Ok tt) where
   outside_n : outside n ≡ false
   unfolding call_tests
   outside_n = passes (call_tests n m trace (length plan)) 0 o (omega arith)
@@ -141,32 +139,32 @@ module _ (n m : ℕ) (trace plan : List ℕ) (o : gate (call_tests n m trace (le
     written_sizes = rw (front_parts.1, front_parts.2, front_parts.3, back_parts.0)
 
     read_back : (requests lent : List ℕ) → length trace ≤ length requests → length plan ≤ length lent
-        → (read_of (file_of n m trace plan) (length requests) (length lent) ≡ Bundle (record { n = n; m = m; requests = length trace; planned = length plan }))
+        → (read_of (file_of n m trace plan) (length requests) (length lent) ≡ Ok (record { n = n; m = m; requests = length trace; planned = length plan }))
         × (requests_left (file_of n m trace plan) requests (length lent) ≡ trace ++ drop (length trace) requests)
         × (plan_left (file_of n m trace plan) (length requests) lent ≡ plan ++ drop (length plan) lent)
     unfolding file_requests file_plan
     read_back requests lent ha hb =
         let g = file_opens (file_of n m trace plan) (length requests) (length lent) (written_accepted (length requests) (length lent) ha hb) in
         let d = read_done (file_of n m trace plan) requests lent g in (
-          sym d.0 ∙ ap Bundle written_sizes,
+          sym d.0 ∙ ap Ok written_sizes,
           sym d.1 ∙ ap₂ (λ (ws : List ℕ) (t : ℕ). ws ++ drop t requests) same_requests front_parts.3,
           sym d.2 ∙ ap₂ (λ (ws : List ℕ) (t : ℕ). ws ++ drop t lent) same_plan same_count,
         )
 
 -- an answer with bytes comes through an open gate, and they are the file's
-bytes_open : (n m k : ℕ) (trace plan : List ℕ) (room : ℕ) → write_of n m trace plan room ≡ Bytes k
-    → (gate (write_tests n m trace plan room) ≡ Open) × (length (file_of n m trace plan) ≡ k)
+bytes_open : (n m k : ℕ) (trace plan : List ℕ) (room : ℕ) → write_of n m trace plan room ≡ Ok k
+    → (gate (write_tests n m trace plan room) ≡ Ok tt) × (length (file_of n m trace plan) ≡ k)
 unfolding write_of
 bytes_open n m k trace plan room e = go (gate (write_tests n m trace plan room)) refl e
   where
-    go : (g : Gate) → gate (write_tests n m trace plan room) ≡ g → bytes_by g (length (file_of n m trace plan)) ≡ Bytes k
-        → (gate (write_tests n m trace plan room) ≡ Open) × (length (file_of n m trace plan) ≡ k)
-    go Open q e = (q, cc)
-    go (No refusal) q e = absurd (let z : ◌≡◌ {A = ℕ} 0 1 = cc in omega arith)
+    go : (g : Gate) → gate (write_tests n m trace plan room) ≡ g → bytes_by g (length (file_of n m trace plan)) ≡ Ok k
+        → (gate (write_tests n m trace plan room) ≡ Ok tt) × (length (file_of n m trace plan) ≡ k)
+    go (Ok tt) q e = (q, cc)
+    go (Err refusal) q e = absurd (let z : ◌≡◌ {A = ℕ} 0 1 = cc in omega arith)
 
 -- where a writing is not refused, the call is in order and the room is large enough
-room_open : (n m : ℕ) (trace plan : List ℕ) (room : ℕ) → gate (write_tests n m trace plan room) ≡ Open
-    → (gate (call_tests n m trace (length plan)) ≡ Open) × (length (file_of n m trace plan) ≤ room)
+room_open : (n m : ℕ) (trace plan : List ℕ) (room : ℕ) → gate (write_tests n m trace plan room) ≡ Ok tt
+    → (gate (call_tests n m trace (length plan)) ≡ Ok tt) × (length (file_of n m trace plan) ≤ room)
 unfolding write_tests
 room_open n m trace plan room o = (
   first_open (call_tests n m trace (length plan)) (test (ltb room (length (file_of n m trace plan))) LentTooShort ∷ []) o,
@@ -174,8 +172,8 @@ room_open n m trace plan room o = (
 )
 
 -- where a writing is not refused, the call is in order and the first k bytes of the room are its file
-pub written_file : (n m k : ℕ) (trace plan room file : List ℕ) → write_of n m trace plan (length room) ≡ Bytes k → take k (room_left n m trace plan room) ≡ file
-    → (gate (call_tests n m trace (length plan)) ≡ Open) × (file ≡ file_of n m trace plan)
+pub written_file : (n m k : ℕ) (trace plan room file : List ℕ) → write_of n m trace plan (length room) ≡ Ok k → take k (room_left n m trace plan room) ≡ file
+    → (gate (call_tests n m trace (length plan)) ≡ Ok tt) × (file ≡ file_of n m trace plan)
 written_file n m k trace plan room file e f =
     let (g, l) = bytes_open n m k trace plan (length room) e in
     let (o, h) = room_open n m trace plan (length room) g in (
@@ -187,9 +185,9 @@ written_file n m k trace plan room file e f =
 
 -- "reading what it wrote gives the same values": the first k bytes of the room, for words of 32 bits and lists with room for both sections
 pub reading_what_was_written : (n m k : ℕ) (trace plan room file requests lent : List ℕ) → AllBelow 4294967296 trace → AllBelow 4294967296 plan
-    → write_of n m trace plan (length room) ≡ Bytes k → take k (room_left n m trace plan room) ≡ file
+    → write_of n m trace plan (length room) ≡ Ok k → take k (room_left n m trace plan room) ≡ file
     → length trace ≤ length requests → length plan ≤ length lent
-    → (read_of file (length requests) (length lent) ≡ Bundle (record { n = n; m = m; requests = length trace; planned = length plan }))
+    → (read_of file (length requests) (length lent) ≡ Ok (record { n = n; m = m; requests = length trace; planned = length plan }))
     × (requests_left file requests (length lent) ≡ trace ++ drop (length trace) requests)
     × (plan_left file (length requests) lent ≡ plan ++ drop (length plan) lent)
 reading_what_was_written n m k trace plan room file requests lent wt wp e f ha hb =
@@ -198,7 +196,7 @@ reading_what_was_written n m k trace plan room file requests lent wt wp e f ha h
 -- ---- writing what was read
 
 module _ (file : List ℕ) (a b : ℕ) (d : OpenFile file a b) where
-  pub again_open : gate (call_tests (word_at file 4) (word_at file 8) (file_requests file) (length (file_plan file))) ≡ Open
+  pub again_open : gate (call_tests (word_at file 4) (word_at file 8) (file_requests file) (length (file_plan file))) ≡ Ok tt
   unfolding gate call_tests size_tests trace_tests file_requests file_plan
   again_open =
       let t : length (file_requests file) ≡ request_count file = length_words file 16 (request_count file) in
@@ -229,7 +227,7 @@ module _ (file : List ℕ) (a b : ℕ) (d : OpenFile file a b) where
       ∙ bytes_back (suc (suc (suc (suc (request_count file)))) + suc (plan_count file)) file s l
 
 -- where a reading is not refused, the sizes are the file's, and so are the words in front of both lists
-pub read_words_lem : (file requests lent : List ℕ) (sizes : Sizes) → read_of file (length requests) (length lent) ≡ Bundle sizes
+pub read_words_lem : (file requests lent : List ℕ) (sizes : Sizes) → read_of file (length requests) (length lent) ≡ Ok sizes
     → (sizes_of file ≡ sizes)
     × (take sizes.requests (requests_left file requests (length lent)) ≡ file_requests file)
     × (take sizes.planned (plan_left file (length requests) lent) ≡ file_plan file)
@@ -248,11 +246,11 @@ read_words_lem file requests lent sizes e =
 
 -- "writing what was read gives the same bytes": for every accepted file, its values written into a room that is large enough
 pub writing_what_was_read : (file requests lent room : List ℕ) (sizes : Sizes) (trace plan : List ℕ) → AllBelow 256 file
-    → read_of file (length requests) (length lent) ≡ Bundle sizes
+    → read_of file (length requests) (length lent) ≡ Ok sizes
     → take sizes.requests (requests_left file requests (length lent)) ≡ trace
     → take sizes.planned (plan_left file (length requests) lent) ≡ plan
     → length file ≤ length room
-    → (write_of sizes.n sizes.m trace plan (length room) ≡ Bytes (length file))
+    → (write_of sizes.n sizes.m trace plan (length room) ≡ Ok (length file))
     × (room_left sizes.n sizes.m trace plan room ≡ file ++ drop (length file) room)
 writing_what_was_read file requests lent room sizes trace plan s e f g h =
     let d = open_file file (length requests) (length lent) (bundle_open file (length requests) (length lent) sizes e).0 in
@@ -265,6 +263,6 @@ writing_what_was_read file requests lent room sizes trace plan s e f g h =
     (rw (ap length same) h)
     in
     rw (← z, t, p) (
-      sym w.0 ∙ ap (λ (x : List ℕ). Bytes (length x)) same,
+      sym w.0 ∙ ap (λ (x : List ℕ). Ok (length x)) same,
       sym w.1 ∙ ap (λ (x : List ℕ). x ++ drop (length x) room) same,
     )

@@ -4,4 +4,3 @@ pub mod Reading
 pub mod Writing
 pub mod Numbers
 pub mod Accepted
-pub mod Devices

@@ -1,16 +1,14 @@
 -- Document 01, "Bundle file": the bytes of a bundle, what writing one answers, and what it leaves in the lent room.
 -- Assumes nothing.
-use Rattle.std.specs.Prelude.{List, [], ◌∷◌, ◌++◌, ℕ, ltb, length}
+use Rattle.std.specs.Prelude.{List, [], ◌∷◌, ◌++◌, ℕ, ltb, length, Result, Ok, Err}
 use Rattle.paging.specs.Lists.{not}
 use Rattle.paging.specs.Calls.{Test, test, gate, trace_tests}
 use Rattle.paging.specs.Services.{left_by}
-use Rattle.paging.specs.declared.Gate.{Gate}
-use Rattle.paging.specs.declared.Gate.TheVariants.{Open, No}
+use Rattle.paging.specs.Refusals.{Gate}
+use Rattle.paging.specs.declared.Refusal.{Refusal}
 use Rattle.paging.specs.declared.Refusal.TheVariants.{LentTooShort, CountNotAllowed}
 use Rattle.reading.specs.Reading.{plan_fits, size_tests}
 use Rattle.bundle.specs.Bytes.{section}
-use Rattle.bundle.specs.declared.WriteAnswer.{WriteAnswer}
-use Rattle.bundle.specs.declared.WriteAnswer.TheVariants.{Bytes, Refused}
 
 -- sizes, requests and plan
 unfoldable pub file_of : ℕ → ℕ → List ℕ → List ℕ → List ℕ
@@ -29,9 +27,13 @@ unfolding call_tests file_of
 write_tests n m trace plan room =
     call_tests n m trace (length plan) ++ test (ltb room (length (file_of n m trace plan))) LentTooShort ∷ []
 
+-- what a writing answers: the bytes of the file, or a refusal
+abbrev pub WriteAnswer : Type 0
+WriteAnswer = Result ℕ Refusal
+
 abbrev pub bytes_by : Gate → ℕ → WriteAnswer
-bytes_by Open bytes = Bytes bytes
-bytes_by (No refusal) bytes = Refused refusal
+bytes_by (Ok nothing) bytes = Ok bytes
+bytes_by (Err refusal) bytes = Err refusal
 
 unfoldable pub write_of : ℕ → ℕ → List ℕ → List ℕ → ℕ → WriteAnswer
 unfolding gate write_tests

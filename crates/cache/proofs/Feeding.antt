@@ -2,6 +2,7 @@
 --
 -- In order: Feed where nothing is refused, and of a record that is not sound; one request; soundness; the page dropped; feeding a trace.
 -- Assumes nothing.
+use Rattle.std.specs.Prelude.{Ok, Err}
 use mathlib.Core.Path.{◌≡◌, refl, sym, ap, ap₂, ◌∙◌}
 use mathlib.Core.Bool.{Bool, true, false}
 use mathlib.Core.List.{List, [], ◌∷◌, map}
@@ -11,51 +12,66 @@ use native.Mathlib.Omega.{arith}
 use lib.Dec.{eqb}
 use lib.ListN.{length, take, replicate, length-append, length-replicate}
 use lib.Seq.{take-append_seam}
-use borrow.Author.Tests.{ne_eqb, eqb-false}
+use borrow.Author.Tests.{ne_eqb, eqb-false, tests}
 use Rattle.paging.specs.Lists.{pick, both, any}
 use Rattle.paging.specs.Rules.{mark, between, no_requests, rule_numbered, named, drops}
 use Rattle.paging.specs.Walk.{entry_at, next, outcomes, faults_in, plan_in, faults, plan}
-use Rattle.paging.specs.Calls.{frame_limit, request_limit, marked}
+use Rattle.paging.specs.Calls.{frame_limit, request_limit, marked, test, gate}
 use Rattle.paging.specs.declared.Entry.{Entry}
-use Rattle.paging.specs.declared.Gate.TheVariants.{Open}
-use Rattle.paging.specs.declared.Refusal.TheVariants.{UnsoundRecord}
+use Rattle.paging.specs.declared.Refusal.TheVariants.{UnsoundRecord, ClockFull}
 use Rattle.paging.specs.declared.Rule.TheVariants.{Min}
 use Rattle.paging.specs.declared.Outcome.{Outcome}
 use Rattle.paging.specs.declared.Outcome.TheVariants as O
-use Rattle.paging.proofs.Lists.{false≢true}
 use Rattle.paging.proofs.Frames.{next_size}
 use Rattle.paging.proofs.Sight.{outcomes_past, outcome_blind, next_blind}
+use Rattle.calls.specs.Chain.{and_then}
+use Rattle.calls.proofs.Chain.{gate_append}
 use Rattle.entries.specs.Blank.{blank_entry}
 use Rattle.occupancy.specs.Map.{lowest_only}
 use Rattle.occupancy.proofs.Lowest.{map_ones, map_words_lem}
 use Rattle.soundness.specs.Sound.{feedable, sound_parts}
 use Rattle.soundness.proofs.Orderly.{drops_one}
 use Rattle.cache.specs.declared.Cache.{Cache}
-use Rattle.cache.specs.declared.Reply.{Reply}
-use Rattle.cache.specs.declared.Reply.TheVariants.{Refused}
 use Rattle.cache.specs.declared.Fed.{Fed}
 use Rattle.cache.specs.Record.{empty_cache, held_of, held_entries, padded, rule_of, Formed, fresh_of}
 use Rattle.cache.specs.Sound.{sound, Sound}
-use Rattle.cache.specs.Feed.{served, reply_of, fed, feeding, fed_plan, fed_faults}
+use Rattle.cache.specs.Feed.{Reply, served, feed_tests, fed, feeding, fed_plan, fed_faults}
+use Rattle.cache.specs.Lookup.{lookup_tests}
 use Rattle.cache.specs.Devices.Step.{outcomes_from}
 use Rattle.cache.proofs.Soundness.{sound_is, is_sound, held_length, empty_formed, empty_held, empty_sound, fresh_in_order, fresh_empty}
 use Rattle.cache.proofs.Least.{not_min}
 use Rattle.cache.proofs.Step.{served_sound}
 
+below : (t : ℕ) → t ≤ request_limit → (t ≡ request_limit → ⊥) → t < request_limit
+below t h e = omega arith
+
 -- ---- where nothing is refused
 
 pub fed_open : (c : Cache) (p : ℕ) → sound c ≡ true → (p ≡ mark → ⊥) → (c.clock ≡ request_limit → ⊥)
-    → ◌≡◌ {A = Fed} (fed c p) (record { outcome = reply_of (served c p).outcome; next = (served c p).next })
+    → ◌≡◌ {A = Fed} (fed c p) (record { outcome = Ok (served c p).outcome; next = (served c p).next })
 unfolding fed
 fed_open c p s page clock = rw (s, ne_eqb p mark page, ne_eqb c.clock request_limit clock)
 
+-- 5 and 4, as for any question about a page, then 8
+pub gate_on : (c : Cache) (p : ℕ) → gate (feed_tests c p) ≡ and_then (gate (lookup_tests c p)) (pick (eqb c.clock request_limit) (Err ClockFull) (Ok tt))
+unfolding gate feed_tests lookup_tests
+gate_on c p = gate_append (lookup_tests c p) (test (eqb c.clock request_limit) ClockFull ∷ [])
+
+-- where the gate is open the record is sound, and there is time for a request
+pub feed_taken : (c : Cache) (p : ℕ) → gate (feed_tests c p) ≡ Ok tt → (sound c ≡ true) × (c.clock < request_limit)
+unfolding gate feed_tests
+feed_taken c p e =
+    let s : sound c ≡ true = grind (arith, tests) in
+    let k : c.clock ≤ request_limit = (sound_is c s).parts.clock_most in
+    (s, grind (arith, tests))
+
 -- ---- a record that is not sound is refused with 5 and handed back; so is every map with a gap or a stray bit
 
-pub unsound_refused : (c : Cache) (p : ℕ) → sound c ≡ false → ◌≡◌ {A = Fed} (fed c p) (record { outcome = Refused UnsoundRecord; next = c })
+pub unsound_refused : (c : Cache) (p : ℕ) → sound c ≡ false → ◌≡◌ {A = Fed} (fed c p) (record { outcome = Err UnsoundRecord; next = c })
 unfolding fed
 unsound_refused c p s = rw s
 
-pub stray_refused : (c : Cache) (p : ℕ) → lowest_only c.map ≡ false → ◌≡◌ {A = Fed} (fed c p) (record { outcome = Refused UnsoundRecord; next = c })
+pub stray_refused : (c : Cache) (p : ℕ) → lowest_only c.map ≡ false → ◌≡◌ {A = Fed} (fed c p) (record { outcome = Err UnsoundRecord; next = c })
 unfolding sound
 stray_refused c p l =
     unsound_refused c p (ap (λ (b : Bool). both b (sound_parts c.rule c.frames c.clock (held_of c) c.entries)) l)
@@ -99,9 +115,6 @@ fed_sound c p formed s = go (eqb p mark) (eqb c.clock request_limit) refl refl
     go false false q r =
         let k : Sound c = sound_is c s in
         rw (s, q, r) (is_sound _ (served_sound c p formed k (below c.clock k.parts.clock_most (eqb-false _ _ r)) (eqb-false _ _ q)))
-      where
-        below : (t : ℕ) → t ≤ request_limit → (t ≡ request_limit → ⊥) → t < request_limit
-        below t h e = omega arith
 
 -- ---- THE PAGE DROPPED IS UNIQUE, on a sound record: only one entry fits the rule's description
 
@@ -117,11 +130,7 @@ dropped_one c formed s i j h k =
 
 unmarked_cons : (p : ℕ) (ps : List ℕ) → marked (p ∷ ps) ≡ false → (p ≡ mark → ⊥) × (marked ps ≡ false)
 unfolding marked any
-unmarked_cons p ps = go (eqb p mark) refl
-  where
-    go : (b : Bool) → eqb p mark ≡ b → pick b true (marked ps) ≡ false → (p ≡ mark → ⊥) × (marked ps ≡ false)
-    go true q m = absurd (false≢true (sym m))
-    go false q m = (eqb-false _ _ q, m)
+unmarked_cons p ps m = (grind (arith, tests), grind (arith, tests))
 
 -- one request, then the rest
 outcomes_step : (c : Cache) (p : ℕ) (ps : List ℕ) → Formed c → Sound c → outcomes_from c (p ∷ ps) ≡ (served c p).outcome ∷ outcomes_from (served c p).next ps
@@ -160,37 +169,37 @@ fits_next c p ps f =
     later c p ps h = unfold served in omega arith
 
 -- the replies are the outcomes of the walk from its entries
-feeding_walks : (ps : List ℕ) (c : Cache) → Fits c ps → feeding c ps ≡ map reply_of (outcomes_from c ps)
+feeding_walks : (ps : List ℕ) (c : Cache) → Fits c ps → feeding c ps ≡ map Ok (outcomes_from c ps)
 unfolding feeding outcomes
 feeding_walks [] c f = refl
 feeding_walks (p ∷ ps) c f =
     let (page, g) = fits_next c p ps f in
     let full : c.clock ≡ request_limit → ⊥ = λ x. omega (arith, f.time_left) in
-    rw (fed_open c p (is_sound c f.sound_now) page full) (ap (λ (rs : List Reply). reply_of (served c p).outcome ∷ rs) (feeding_walks ps (served c p).next g))
-    ∙ ap (map reply_of) (sym (outcomes_step c p ps f.formed_now f.sound_now))
+    rw (fed_open c p (is_sound c f.sound_now) page full) (ap (λ (rs : List Reply). Ok (served c p).outcome ∷ rs) (feeding_walks ps (served c p).next g))
+    ∙ ap (map Ok) (sym (outcomes_step c p ps f.formed_now f.sound_now))
 
-plan_of_replies : (os : List Outcome) → fed_plan (map reply_of os) ≡ plan_in os
+plan_of_replies : (os : List Outcome) → fed_plan (map Ok os) ≡ plan_in os
 unfolding fed_plan plan_in
 plan_of_replies [] = refl
-plan_of_replies (O.Hit ∷ os) = ap (λ (ws : List ℕ). mark ∷ ws) (plan_of_replies os)
-plan_of_replies (O.Loaded ∷ os) = ap (λ (ws : List ℕ). mark ∷ ws) (plan_of_replies os)
-plan_of_replies (O.Dropped p ∷ os) = ap (λ (ws : List ℕ). p.0 ∷ ws) (plan_of_replies os)
+plan_of_replies (O.Hit ∷ os) = rw (plan_of_replies os)
+plan_of_replies (O.Loaded ∷ os) = rw (plan_of_replies os)
+plan_of_replies (O.Dropped p ∷ os) = rw (plan_of_replies os)
 
-faults_of_replies : (os : List Outcome) → fed_faults (map reply_of os) ≡ faults_in os
+faults_of_replies : (os : List Outcome) → fed_faults (map Ok os) ≡ faults_in os
 unfolding fed_faults faults_in
 faults_of_replies [] = refl
-faults_of_replies (O.Hit ∷ os) = ap (λ (k : ℕ). 0 + k) (faults_of_replies os)
-faults_of_replies (O.Loaded ∷ os) = ap (λ (k : ℕ). 1 + k) (faults_of_replies os)
-faults_of_replies (O.Dropped p ∷ os) = ap (λ (k : ℕ). 1 + k) (faults_of_replies os)
+faults_of_replies (O.Hit ∷ os) = rw (faults_of_replies os)
+faults_of_replies (O.Loaded ∷ os) = rw (faults_of_replies os)
+faults_of_replies (O.Dropped p ∷ os) = rw (faults_of_replies os)
 
 -- rule 1, 2 or 4 by its number, 1 to 256 frames, up to 8,000 requests without the mark
 module _ (rule n : ℕ) (trace : List ℕ) (feeds : feedable rule ≡ true) (some : 1 ≤ n) (most : n ≤ frame_limit) (short : length trace ≤ request_limit) (clean : marked trace ≡ false) where
   -- the replies are the walk's outcomes
-  pub feeding_gives_the_walk : feeding (empty_cache rule n) trace ≡ map reply_of (outcomes (named (rule_numbered rule)) n 0 [] trace [])
+  pub feeding_gives_the_walk : feeding (empty_cache rule n) trace ≡ map Ok (outcomes (named (rule_numbered rule)) n 0 [] trace [])
   feeding_gives_the_walk =
       feeding_walks trace (empty_cache rule n)
       (fits_first (empty_cache rule n) trace (empty_formed rule n) (is_sound (empty_cache rule n) (empty_sound rule n feeds some most)) (omega arith) clean)
-      ∙ ap (λ (es : List Entry). map reply_of (outcomes (named (rule_numbered rule)) n 0 [] trace es)) (empty_held rule n)
+      ∙ ap (λ (es : List Entry). map Ok (outcomes (named (rule_numbered rule)) n 0 [] trace es)) (empty_held rule n)
 
   -- so they give the rule's plan
   pub feeding_gives_the_plan : fed_plan (feeding (empty_cache rule n) trace) ≡ plan (named (rule_numbered rule)) n trace
@@ -203,8 +212,8 @@ module _ (rule n : ℕ) (trace : List ℕ) (feeds : feedable rule ≡ true) (som
   feeding_gives_the_count = ap fed_faults feeding_gives_the_walk ∙ faults_of_replies (outcomes (named (rule_numbered rule)) n 0 [] trace [])
 
 -- THE SAME FROM FRESH: where its gate is open, up to 8,000 requests without the mark
-module _ (rule n : ℕ) (trace : List ℕ) (opens : (fresh_of rule n).gate ≡ Open) (short : length trace ≤ request_limit) (clean : marked trace ≡ false) where
-  pub fresh_gives_the_walk : feeding (fresh_of rule n).cache trace ≡ map reply_of (outcomes (named (rule_numbered rule)) n 0 [] trace [])
+module _ (rule n : ℕ) (trace : List ℕ) (opens : (fresh_of rule n).gate ≡ Ok tt) (short : length trace ≤ request_limit) (clean : marked trace ≡ false) where
+  pub fresh_gives_the_walk : feeding (fresh_of rule n).cache trace ≡ map Ok (outcomes (named (rule_numbered rule)) n 0 [] trace [])
   fresh_gives_the_walk = let (f, h, k) = fresh_in_order rule n opens in rw (fresh_empty rule n opens) (feeding_gives_the_walk rule n trace f h k short clean)
 
   pub fresh_gives_the_plan : fed_plan (feeding (fresh_of rule n).cache trace) ≡ plan (named (rule_numbered rule)) n trace

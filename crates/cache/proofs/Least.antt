@@ -6,9 +6,9 @@ use mathlib.Core.Bool.{Bool, true, false}
 use mathlib.Core.List.{List}
 use Prim.Native.Nat.{ℕ, ◌+◌, ◌≤◌, ◌<◌}
 use native.Mathlib.Omega.{arith}
-use lib.Dec.{eqb, leb}
+use lib.Dec.{leb}
 use lib.ListN.{length}
-use borrow.Author.Tests.{eqb-true, le-leb}
+use borrow.Author.Tests.{le-leb, tests}
 use Rattle.paging.specs.Lists.{pick, both, implies, any, all, index_of}
 use Rattle.paging.specs.Rules.{no_requests, once, lru2_drops, drops, chosen, rule_numbered, named}
 use Rattle.paging.specs.Walk.{zero_entry, entry_at}
@@ -24,21 +24,16 @@ use Rattle.soundness.proofs.Orderly.{chosen_is}
 -- ---- the rules that can be fed
 
 feed_cases : (rule : ℕ) → feedable rule ≡ true → (rule ≡ 1) ⊎ (rule ≡ 2) ⊎ (rule ≡ 4)
-feed_cases rule = go (eqb rule 1) (eqb rule 2) refl refl
-  where
-    go : (a b : Bool) → eqb rule 1 ≡ a → eqb rule 2 ≡ b → pick a true (pick b true (eqb rule 4)) ≡ true → (rule ≡ 1) ⊎ (rule ≡ 2) ⊎ (rule ≡ 4)
-    go true b p q e = inl (eqb-true _ _ p)
-    go false true p q e = inr (inl (eqb-true _ _ q))
-    go false false p q e = inr (inr (eqb-true _ _ e))
+feed_cases rule e = grind (arith, tests)
 
 -- MIN is none of them
 pub not_min : (rule : ℕ) → feedable rule ≡ true → named (rule_numbered rule) ≡ Min → ⊥
 not_min rule feeds e = go (feed_cases rule feeds)
   where
     go : (rule ≡ 1) ⊎ (rule ≡ 2) ⊎ (rule ≡ 4) → ⊥
-    go (inl x) = let z : ◌≡◌ {A = ℕ} 0 1 = cc in omega arith
-    go (inr (inl x)) = let z : ◌≡◌ {A = ℕ} 0 1 = cc in omega arith
-    go (inr (inr x)) = let z : ◌≡◌ {A = ℕ} 0 1 = cc in omega arith
+    go (inl x) = cc
+    go (inr (inl x)) = cc
+    go (inr (inr x)) = cc
 
 -- ---- an entry with the least key
 

@@ -2,6 +2,7 @@
 --
 -- In order: refused and answered; the laws; Feed and the service.
 -- Assumes nothing.
+use Rattle.std.specs.Prelude.{Some, None, Ok, Err}
 use mathlib.Core.Path.{◌≡◌, refl, sym, ap, ◌∙◌, subst}
 use mathlib.Core.Logic.{inl, inr, ◌↔◌}
 use mathlib.Core.Bool.{Bool, true, false}
@@ -12,24 +13,21 @@ use lib.ListN.{length, get_or}
 use borrow.Author.Tests.{eqb-true, eqb-false, eq-eqb, ne_eqb}
 use Rattle.paging.specs.Lists.{place_of}
 use Rattle.paging.specs.Rules.{mark, no_requests}
-use Rattle.paging.specs.Held.{found}
+use Rattle.paging.specs.Held.{found, Found}
 use Rattle.paging.specs.Walk.{pages, holds, outcome}
 use Rattle.paging.specs.Calls.{request_limit}
 use Rattle.paging.specs.declared.Entry.{Entry}
 use Rattle.paging.specs.declared.Frame.{Frame}
-use Rattle.paging.specs.declared.Found.{Found}
-use Rattle.paging.specs.declared.Refusal.{Refusal}
+use Rattle.paging.specs.declared.Outcome.TheVariants.{Hit}
 use Rattle.paging.specs.declared.Refusal.TheVariants.{UnsoundRecord, MarkRequested}
 use Rattle.paging.proofs.Held.{found_there, there_found, found_has, found_only, absent_exactly}
 use Rattle.paging.proofs.Frames.{pages_length, pages_at, mem_pages, Ways, ways, outcome_hit, outcome_room, outcome_full}
 use Rattle.cache.specs.declared.Cache.{Cache}
-use Rattle.cache.specs.declared.Lookup.TheVariants.{At, Absent, Refused}
-use Rattle.cache.specs.declared.Reply.TheVariants.{Hit}
 use Rattle.cache.specs.declared.Fed.{Fed}
 use Rattle.cache.specs.Record.{held_of, held_entries, rule_of, Formed}
 use Rattle.cache.specs.Sound.{sound, Sound}
-use Rattle.cache.specs.Feed.{served, reply_of, fed, changed_frame, Applied}
-use Rattle.cache.specs.Lookup.{lookup_of, looked_up, HasAt}
+use Rattle.cache.specs.Feed.{Reply, served, fed, changed_frame, Applied}
+use Rattle.cache.specs.Lookup.{looked_up, HasAt}
 use Rattle.cache.proofs.Soundness.{sound_is, held_length}
 use Rattle.cache.proofs.Step.{entry_held}
 use Rattle.cache.proofs.Feeding.{fed_open, served_formed, fed_sound}
@@ -39,17 +37,17 @@ use Rattle.cache.proofs.Changes.{fed_applies}
 
 module _ (c : Cache) (p : ℕ) where
   -- 5 where the record isn't sound, whatever the page
-  pub unsound_first : sound c ≡ false → looked_up c p ≡ Refused UnsoundRecord
+  pub unsound_first : sound c ≡ false → looked_up c p ≡ Err UnsoundRecord
   unfolding looked_up
   unsound_first s = rw s
 
   -- then 4 for the mark
-  pub mark_refused : sound c ≡ true → p ≡ mark → looked_up c p ≡ Refused (MarkRequested 0)
+  pub mark_refused : sound c ≡ true → p ≡ mark → looked_up c p ≡ Err (MarkRequested 0)
   unfolding looked_up
   mark_refused s e = rw (s, eq-eqb p mark e)
 
   -- else which frame of the entries in use
-  pub looked_open : sound c ≡ true → (p ≡ mark → ⊥) → looked_up c p ≡ lookup_of (found p (pages (held_entries c)))
+  pub looked_open : sound c ≡ true → (p ≡ mark → ⊥) → looked_up c p ≡ Ok (found p (pages (held_entries c)))
   unfolding looked_up
   looked_open s e = rw (s, ne_eqb p mark e)
 
@@ -57,23 +55,13 @@ module _ (c : Cache) (p : ℕ) where
   abbrev Taken : Type 0
   Taken = (sound c ≡ true) × (p ≡ mark → ⊥)
 
-  taken : (f : Found) → looked_up c p ≡ lookup_of f → Taken × (found p (pages (held_entries c)) ≡ f)
+  taken : (f : Found) → looked_up c p ≡ Ok f → Taken × (found p (pages (held_entries c)) ≡ f)
   taken f = go (sound c) (eqb p mark) refl refl
     where
-      same : (a b : Found) → lookup_of a ≡ lookup_of b → a ≡ b
-      same (Rattle.paging.specs.declared.Found.TheVariants.At x) (Rattle.paging.specs.declared.Found.TheVariants.At y) e = cc
-      same (Rattle.paging.specs.declared.Found.TheVariants.At x) Rattle.paging.specs.declared.Found.TheVariants.Absent e = absurd (let z : ◌≡◌ {A = ℕ} 0 1 = cc in omega arith)
-      same Rattle.paging.specs.declared.Found.TheVariants.Absent (Rattle.paging.specs.declared.Found.TheVariants.At y) e = absurd (let z : ◌≡◌ {A = ℕ} 0 1 = cc in omega arith)
-      same Rattle.paging.specs.declared.Found.TheVariants.Absent Rattle.paging.specs.declared.Found.TheVariants.Absent e = refl
-
-      never : (r : Refusal) (g : Found) → Refused r ≡ lookup_of g → ⊥
-      never r (Rattle.paging.specs.declared.Found.TheVariants.At x) e = let z : ◌≡◌ {A = ℕ} 0 1 = cc in omega arith
-      never r Rattle.paging.specs.declared.Found.TheVariants.Absent e = let z : ◌≡◌ {A = ℕ} 0 1 = cc in omega arith
-
-      go : (a b : Bool) → sound c ≡ a → eqb p mark ≡ b → looked_up c p ≡ lookup_of f → Taken × (found p (pages (held_entries c)) ≡ f)
-      go false b s q e = absurd (never UnsoundRecord f (sym (unsound_first s) ∙ e))
-      go true true s q e = absurd (never (MarkRequested 0) f (sym (mark_refused s (eqb-true _ _ q)) ∙ e))
-      go true false s q e = ((s, eqb-false _ _ q), same _ _ (sym (looked_open s (eqb-false _ _ q)) ∙ e))
+      go : (a b : Bool) → sound c ≡ a → eqb p mark ≡ b → looked_up c p ≡ Ok f → Taken × (found p (pages (held_entries c)) ≡ f)
+      go false b s q e = absurd (cc (unsound_first s))
+      go true true s q e = absurd (cc (mark_refused s (eqb-true _ _ q)))
+      go true false s q e = ((s, eqb-false _ _ q), cc (looked_open s (eqb-false _ _ q)))
 
 -- ---- the laws
 
@@ -99,70 +87,70 @@ module _ (c : Cache) (formed : Formed c) (p : ℕ) where
       s.parts.orderly.apart i j h k (x ∙ sym y)
 
   -- THE FRAME TOLD is below those in use and has the page
-  pub frame_has : (f : Frame) → looked_up c p ≡ At f → HasAt c p f.0 × (f.0 < c.frames)
+  pub frame_has : (f : Frame) → looked_up c p ≡ Ok (Some f) → HasAt c p f.0 × (f.0 < c.frames)
   frame_has f e =
-      let (t, q) = taken c p (Rattle.paging.specs.declared.Found.TheVariants.At f) e in
+      let (t, q) = taken c p (Some f) e in
       let s : Sound c = sound_is c t.0 in
       let (h, x, y) = found_has p (pages (held_entries c)) f q in
       let has : HasAt c p f.0 = page_in s f.0 h x in
       (has, omega (arith, has.0, s.parts.held_frames))
 
   -- and it is the only one: told exactly where that frame has the page
-  pub frame_exactly : sound c ≡ true → (p ≡ mark → ⊥) → (i : ℕ) → (looked_up c p ≡ At (record { 0 = i })) ↔ HasAt c p i
+  pub frame_exactly : sound c ≡ true → (p ≡ mark → ⊥) → (i : ℕ) → (looked_up c p ≡ Ok (Some (record { 0 = i }))) ↔ HasAt c p i
   frame_exactly t page i = (λ e. (frame_has (record { 0 = i }) e).0, back)
     where
-      back : HasAt c p i → looked_up c p ≡ At (record { 0 = i })
+      back : HasAt c p i → looked_up c p ≡ Ok (Some (record { 0 = i }))
       back has =
           let s : Sound c = sound_is c t in
           let (h, x) = in_page s i has in
-          looked_open c p t page ∙ ap lookup_of (found_only p (pages (held_entries c)) s.parts.orderly.apart i h x)
+          looked_open c p t page ∙ ap Ok (found_only p (pages (held_entries c)) s.parts.orderly.apart i h x)
 
   -- ABSENT is told exactly where no frame in use has it
-  pub absent_exactly_where : sound c ≡ true → (p ≡ mark → ⊥) → (looked_up c p ≡ Absent) ↔ ((i : ℕ) → HasAt c p i → ⊥)
+  pub absent_exactly_where : sound c ≡ true → (p ≡ mark → ⊥) → (looked_up c p ≡ Ok None) ↔ ((i : ℕ) → HasAt c p i → ⊥)
   absent_exactly_where t page = (there, back)
     where
       s : Sound c
       s = sound_is c t
 
-      there : looked_up c p ≡ Absent → (i : ℕ) → HasAt c p i → ⊥
+      there : looked_up c p ≡ Ok None → (i : ℕ) → HasAt c p i → ⊥
       there e i has =
-          let (t, q) = taken c p Rattle.paging.specs.declared.Found.TheVariants.Absent e in
+          let (t, q) = taken c p None e in
           let (h, x) = in_page s i has in
           (absent_exactly p (pages (held_entries c))).0 q (i, h, x)
 
-      back : ((i : ℕ) → HasAt c p i → ⊥) → looked_up c p ≡ Absent
+      back : ((i : ℕ) → HasAt c p i → ⊥) → looked_up c p ≡ Ok None
       back none =
           looked_open c p t page
-          ∙ ap lookup_of ((absent_exactly p (pages (held_entries c))).1 (λ w. none w.0 (page_in s w.0 w.1 w.2)))
+          ∙ ap Ok ((absent_exactly p (pages (held_entries c))).1 (λ w. none w.0 (page_in s w.0 w.1 w.2)))
 
 -- ---- FEED AND THE SERVICE: where a request is taken
 
 module _ (c : Cache) (p : ℕ) (t : sound c ≡ true) (page : p ≡ mark → ⊥) (clock : c.clock ≡ request_limit → ⊥) where
-  reply_is : (fed c p).outcome ≡ reply_of (outcome (rule_of c) c.frames p no_requests (held_entries c))
+  reply_is : (fed c p).outcome ≡ Ok (outcome (rule_of c) c.frames p no_requests (held_entries c))
   unfolding served
   reply_is = ap (λ (r : Fed). r.outcome) (fed_open c p t page clock)
 
   -- it is a hit exactly where a frame is told
-  pub hit_where_found : ((fed c p).outcome ≡ Hit) ↔ ((f : Frame) × (looked_up c p ≡ At f))
+  pub hit_where_found : ((fed c p).outcome ≡ Ok Hit) ↔ ((f : Frame) × (looked_up c p ≡ Ok (Some f)))
   hit_where_found = (λ e. there (ways c.frames p (held_entries c)) (sym reply_is ∙ e), back)
     where
-      there : Ways c.frames p (held_entries c) → reply_of (outcome (rule_of c) c.frames p no_requests (held_entries c)) ≡ Hit
-          → (f : Frame) × (looked_up c p ≡ At f)
+      there : Ways c.frames p (held_entries c) → ◌≡◌ {A = Reply} (Ok (outcome (rule_of c) c.frames p no_requests (held_entries c))) (Ok Hit)
+          → (f : Frame) × (looked_up c p ≡ Ok (Some f))
       there (inl q) e =
-          (record { 0 = place_of p (pages (held_entries c)) }, looked_open c p t page ∙ ap lookup_of (found_there p (pages (held_entries c)) (mem_pages p (held_entries c) ∙ q)))
+          (record { 0 = place_of p (pages (held_entries c)) }, looked_open c p t page ∙ ap Ok (found_there p (pages (held_entries c)) (mem_pages p (held_entries c) ∙ q)))
       there (inr (inl (q, h))) e =
-          absurd (let z : ◌≡◌ {A = ℕ} 0 1 = cc (outcome_room (rule_of c) c.frames c.clock p no_requests (held_entries c) q h) in omega arith)
+          absurd (cc (outcome_room (rule_of c) c.frames c.clock p no_requests (held_entries c) q h))
       there (inr (inr (q, h))) e =
-          absurd (let z : ◌≡◌ {A = ℕ} 0 1 = cc (outcome_full (rule_of c) c.frames c.clock p no_requests (held_entries c) q h) in omega arith)
+          absurd (cc (outcome_full (rule_of c) c.frames c.clock p no_requests (held_entries c) q h))
 
-      back : (f : Frame) × (looked_up c p ≡ At f) → (fed c p).outcome ≡ Hit
+      back : (f : Frame) × (looked_up c p ≡ Ok (Some f)) → (fed c p).outcome ≡ Ok Hit
       back (f, e) =
-          let (x, q) = taken c p (Rattle.paging.specs.declared.Found.TheVariants.At f) e in
+          let (x, q) = taken c p (Some f) e in
           let m : holds p (held_entries c) ≡ true = sym (mem_pages p (held_entries c)) ∙ (there_found p (pages (held_entries c)) f q).0 in
-          reply_is ∙ ap reply_of (outcome_hit (rule_of c) c.frames c.clock p no_requests (held_entries c) m)
+          reply_is ∙ ap Ok (outcome_hit (rule_of c) c.frames c.clock p no_requests (held_entries c) m)
 
   -- and afterwards the frame that Feed wrote is the one told
-  pub fed_then_found : Formed c → looked_up (fed c p).next p ≡ At (record { 0 = changed_frame c p })
+  pub fed_then_found : Formed c → looked_up (fed c p).next p ≡ Ok (Some (record { 0 = changed_frame c p }))
   fed_then_found formed =
       let a : Applied c p (fed c p).next = fed_applies c p formed t page clock in
       (frame_exactly (fed c p).next (subst Formed (sym (ap (λ (r : Fed). r.next) (fed_open c p t page clock))) (served_formed c p formed (sound_is c t))) p

@@ -2,6 +2,7 @@
 --
 -- In order: the test and its meaning; the entries of a sound record; the empty cache is sound; so is what Fresh hands out.
 -- Assumes nothing.
+use Rattle.std.specs.Prelude.{Ok, Err}
 use mathlib.Core.Path.{◌≡◌, refl, sym, ap, ap₂, ◌∙◌, subst}
 use mathlib.Core.Logic.{◌⊎◌}
 use mathlib.Core.Bool.{Bool, true, false}
@@ -9,16 +10,13 @@ use mathlib.Core.List.{List, [], ◌∷◌, ◌++◌}
 use Prim.Native.Nat.{ℕ, zero, suc, ◌+◌, ◌-◌, ◌≤◌, ◌<◌}
 use native.Mathlib.Numerals.{add-one}
 use native.Mathlib.Omega.{arith}
-use lib.Dec.{eqb}
 use lib.ListN.{length, get_or, take, drop, replicate, length-drop, take-append-drop, get_or-replicate}
 use lib.Seq.{length-take-le, take-append_seam, drop-append_seam}
-use borrow.Author.Tests.{eqb-true, le-ltb}
-use Rattle.paging.specs.Lists.{pick, not, both, all}
-use Rattle.paging.specs.Rules.{mark}
+use borrow.Author.Tests.{le-ltb, tests}
+use Rattle.paging.specs.Lists.{all}
 use Rattle.paging.specs.Walk.{zero_entry, entry_at}
-use Rattle.paging.specs.Calls.{frame_limit, request_limit, outside}
+use Rattle.paging.specs.Calls.{frame_limit, request_limit}
 use Rattle.paging.specs.declared.Entry.{Entry}
-use Rattle.paging.specs.declared.Gate.TheVariants.{Open, No}
 use Rattle.paging.specs.declared.Refusal.TheVariants.{UnknownRule, FramesOutside}
 use Rattle.paging.proofs.Lists.{both_first, both_second, both_true}
 use Rattle.paging.proofs.Held.{apart_nil}
@@ -26,10 +24,10 @@ use Rattle.entries.specs.Blank.{blank_entry}
 use Rattle.occupancy.specs.Map.{map_words, bits_of, ones_of, lowest_zero, lowest_only, map_of, Words}
 use Rattle.occupancy.proofs.Lowest.{map_none, map_ones, map_zero, map_lowest, map_words_lem, lowest_map, lowest_means, means_lowest}
 use Rattle.soundness.specs.Sound.{feedable, all_marks, blank_from, Orderly, sound_parts, SoundParts}
-use Rattle.soundness.proofs.Meaning.{of_not, inside, is_outside, met_means, means_met}
+use Rattle.soundness.proofs.Meaning.{is_outside, met_means, means_met}
 use Rattle.cache.specs.declared.Cache.{Cache}
 use Rattle.cache.specs.declared.Fresh.{Fresh}
-use Rattle.cache.specs.Record.{blank_cache, empty_cache, held_of, held_entries, padded, holding, Formed, fresh_by, fresh_of}
+use Rattle.cache.specs.Record.{blank_cache, empty_cache, held_of, held_entries, padded, holding, Formed, fresh_of}
 use Rattle.cache.specs.Sound.{sound, Sound}
 
 -- ---- the test and its meaning
@@ -50,31 +48,7 @@ is_sound c s = both_true _ _ (means_lowest c.map s.lowest) (means_met c.rule c.f
 -- ---- the entries of a sound record
 
 blank_is : (e : Entry) → all_marks e ≡ true → e ≡ blank_entry
-blank_is e a = λ k. record { page = record { 0 = p k }; loaded = record { 0 = l k }; last = record { 0 = s k }; earlier = record { 0 = r k } }
-  where
-    b₁ : Bool
-    b₁ = eqb e.page.0 mark
-
-    b₂ : Bool
-    b₂ = eqb e.loaded.0 mark
-
-    b₃ : Bool
-    b₃ = eqb e.last.0 mark
-
-    b₄ : Bool
-    b₄ = eqb e.earlier.0 mark
-
-    p : e.page.0 ≡ mark
-    p = eqb-true _ _ (both_first b₁ (both b₂ (both b₃ b₄)) a)
-
-    l : e.loaded.0 ≡ mark
-    l = eqb-true _ _ (both_first b₂ (both b₃ b₄) (both_second b₁ (both b₂ (both b₃ b₄)) a))
-
-    s : e.last.0 ≡ mark
-    s = eqb-true _ _ (both_first b₃ b₄ (both_second b₂ (both b₃ b₄) (both_second b₁ (both b₂ (both b₃ b₄)) a)))
-
-    r : e.earlier.0 ≡ mark
-    r = eqb-true _ _ (both_second b₃ b₄ (both_second b₂ (both b₃ b₄) (both_second b₁ (both b₂ (both b₃ b₄)) a)))
+blank_is e a = grind (arith, tests)
 
 blanks : (es : List Entry) → blank_from es ≡ true → es ≡ replicate (length es) blank_entry
 unfolding blank_from
@@ -173,35 +147,28 @@ every_entry_blank rule frames i h = get_or-replicate frame_limit i blank_entry z
 
 -- a rule that can be fed and 1 to 256 frames: the open gate and the empty cache
 pub fresh_open : (rule n : ℕ) → feedable rule ≡ true → 1 ≤ n → n ≤ frame_limit
-    → ◌≡◌ {A = Fresh} (fresh_of rule n) (record { gate = Open; cache = empty_cache rule n })
+    → ◌≡◌ {A = Fresh} (fresh_of rule n) (record { gate = (Ok tt); cache = empty_cache rule n })
 unfolding fresh_of
 fresh_open rule n f h k = rw (f, le-ltb n 1 h, le-ltb frame_limit n k)
 
 -- else refusal 1, then 2, with the blank record
 pub fresh_refused : (rule n : ℕ)
-    → (feedable rule ≡ false → ◌≡◌ {A = Fresh} (fresh_of rule n) (record { gate = No UnknownRule; cache = blank_cache }))
-    × (feedable rule ≡ true → (n < 1) ⊎ (frame_limit < n) → ◌≡◌ {A = Fresh} (fresh_of rule n) (record { gate = No (FramesOutside 0); cache = blank_cache }))
+    → (feedable rule ≡ false → ◌≡◌ {A = Fresh} (fresh_of rule n) (record { gate = Err UnknownRule; cache = blank_cache }))
+    × (feedable rule ≡ true → (n < 1) ⊎ (frame_limit < n) → ◌≡◌ {A = Fresh} (fresh_of rule n) (record { gate = Err (FramesOutside 0); cache = blank_cache }))
 unfolding fresh_of
 fresh_refused rule n = (λ f. rw f, λ f h. rw (f, is_outside n h))
 
 -- so an open gate tells that rule and frames are in order
-pub fresh_in_order : (rule n : ℕ) → (fresh_of rule n).gate ≡ Open → (feedable rule ≡ true) × (1 ≤ n) × (n ≤ frame_limit)
+pub fresh_in_order : (rule n : ℕ) → (fresh_of rule n).gate ≡ Ok tt → (feedable rule ≡ true) × (1 ≤ n) × (n ≤ frame_limit)
 unfolding fresh_of
-fresh_in_order rule n = go (feedable rule) (outside n) refl refl
-  where
-    go : (a b : Bool) → feedable rule ≡ a → outside n ≡ b → (fresh_by (pick (not a) (No UnknownRule) (pick b (No (FramesOutside 0)) Open)) rule n).gate ≡ Open
-        → (feedable rule ≡ true) × (1 ≤ n) × (n ≤ frame_limit)
-    go true true p q e = absurd (let z : ◌≡◌ {A = ℕ} 0 1 = cc in omega arith)
-    go true false p q e = let (h, k) = inside n (of_not _ q) in (p, h, k)
-    go false true p q e = absurd (let z : ◌≡◌ {A = ℕ} 0 1 = cc in omega arith)
-    go false false p q e = absurd (let z : ◌≡◌ {A = ℕ} 0 1 = cc in omega arith)
+fresh_in_order rule n e = (grind (arith, tests), grind (arith, tests), grind (arith, tests))
 
 -- and that the record is the empty cache
-pub fresh_empty : (rule n : ℕ) → (fresh_of rule n).gate ≡ Open → (fresh_of rule n).cache ≡ empty_cache rule n
+pub fresh_empty : (rule n : ℕ) → (fresh_of rule n).gate ≡ Ok tt → (fresh_of rule n).cache ≡ empty_cache rule n
 fresh_empty rule n e = let (f, h, k) = fresh_in_order rule n e in ap (λ (r : Fresh). r.cache) (fresh_open rule n f h k)
 
 -- WHAT FRESH HANDS OUT is sound
-pub fresh_sound : (rule n : ℕ) → (fresh_of rule n).gate ≡ Open → sound (fresh_of rule n).cache ≡ true
+pub fresh_sound : (rule n : ℕ) → (fresh_of rule n).gate ≡ Ok tt → sound (fresh_of rule n).cache ≡ true
 fresh_sound rule n e =
     let (f, h, k) = fresh_in_order rule n e in
     rw (fresh_empty rule n e) (is_sound (empty_cache rule n) (empty_sound rule n f h k))

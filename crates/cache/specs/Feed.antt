@@ -1,23 +1,20 @@
 -- Document 01, the service Feed: one step of the walk on the record's entries as they stand.
 -- Assumes nothing.
-use Rattle.std.specs.Prelude.{◌≡◌, List, [], ◌∷◌, ℕ, ◌+◌, ◌<◌, eqb, ltb}
+use Rattle.std.specs.Prelude.{◌≡◌, List, [], ◌∷◌, ℕ, ◌+◌, ◌<◌, eqb, ltb, Some, Result, Ok, Err}
 use Rattle.paging.specs.Lists.{pick, not}
 use Rattle.paging.specs.Rules.{mark, no_requests, chosen}
-use Rattle.paging.specs.Refusals.{table}
+use Rattle.paging.specs.Refusals.{table, Gate}
 use Rattle.paging.specs.Held.{found, if_held, frame_after}
 use Rattle.paging.specs.Walk.{pages, entry_at, loaded_at, renewed, outcome, next}
 use Rattle.paging.specs.Calls.{frame_limit, request_limit, Test, test, gate}
 use Rattle.paging.specs.declared.Entry.{Entry}
-use Rattle.paging.specs.declared.Found.TheVariants.{At}
-use Rattle.paging.specs.declared.Gate.{Gate}
-use Rattle.paging.specs.declared.Gate.TheVariants.{Open, No}
 use Rattle.paging.specs.declared.Outcome.{Outcome}
+use Rattle.paging.specs.declared.Outcome.TheVariants.{Hit, Loaded, Dropped}
+use Rattle.paging.specs.declared.Refusal.{Refusal}
 use Rattle.paging.specs.declared.Refusal.TheVariants.{UnsoundRecord, MarkRequested, ClockFull}
 use Rattle.occupancy.specs.Map.{map_of}
 use Rattle.cache.specs.declared.Cache.{Cache}
 use Rattle.cache.specs.declared.Served.{Served}
-use Rattle.cache.specs.declared.Reply.{Reply}
-use Rattle.cache.specs.declared.Reply.TheVariants.{Hit, Loaded, Dropped, Refused}
 use Rattle.cache.specs.declared.ReplyNumbers.{ReplyNumbers}
 use Rattle.cache.specs.declared.Fed.{Fed}
 use Rattle.cache.specs.Record.{held_of, held_entries, rule_of, holding}
@@ -32,11 +29,9 @@ served c p =
       next = holding c (next (rule_of c) c.frames c.clock p no_requests (held_entries c));
     }
 
--- in Feed's words
-abbrev pub reply_of : Outcome → Reply
-reply_of Rattle.paging.specs.declared.Outcome.TheVariants.Hit = Hit
-reply_of Rattle.paging.specs.declared.Outcome.TheVariants.Loaded = Loaded
-reply_of (Rattle.paging.specs.declared.Outcome.TheVariants.Dropped p) = Dropped p
+-- what Feed says of a request: what it came to, or a refusal
+abbrev pub Reply : Type 0
+Reply = Result Outcome Refusal
 
 -- the order in Feed: 5, 4, 8
 unfoldable pub feed_tests : Cache → ℕ → List Test
@@ -49,8 +44,8 @@ feed_tests c p =
 
 -- a refused Feed hands back the record it got
 abbrev pub fed_by : Gate → Cache → ℕ → Fed
-fed_by Open c p = record { outcome = reply_of (served c p).outcome; next = (served c p).next }
-fed_by (No refusal) c p = record { outcome = Refused refusal; next = c }
+fed_by (Ok nothing) c p = record { outcome = Ok (served c p).outcome; next = (served c p).next }
+fed_by (Err refusal) c p = record { outcome = Err refusal; next = c }
 
 unfoldable pub fed : Cache → ℕ → Fed
 unfolding feed_tests gate served
@@ -61,7 +56,7 @@ fed c p = fed_by (gate (feed_tests c p)) c p
 -- the frame: that of the page; else, with room, the lowest free one; else that of the page that the rule drops
 unfoldable pub changed_frame : Cache → ℕ → ℕ
 unfolding frame_after chosen
-changed_frame c p = frame_after c.frames p (At (record { 0 = chosen (rule_of c) no_requests (held_entries c) })) (pages (held_entries c))
+changed_frame c p = frame_after c.frames p (Some (record { 0 = chosen (rule_of c) no_requests (held_entries c) })) (pages (held_entries c))
 
 -- its entry: the page requested again, or loaded, at the clock
 unfoldable pub changed_entry : Cache → ℕ → Entry
@@ -100,16 +95,16 @@ feeding c (p ∷ ps) = (fed c p).outcome ∷ feeding (fed c p).next ps
 
 -- the plan's word of a reply, and whether it is a fault; a refusal has neither
 abbrev pub reply_word : Reply → ℕ
-reply_word Hit = mark
-reply_word Loaded = mark
-reply_word (Dropped p) = p.0
-reply_word (Refused refusal) = mark
+reply_word (Ok Hit) = mark
+reply_word (Ok Loaded) = mark
+reply_word (Ok (Dropped p)) = p.0
+reply_word (Err refusal) = mark
 
 abbrev pub reply_fault : Reply → ℕ
-reply_fault Hit = 0
-reply_fault Loaded = 1
-reply_fault (Dropped p) = 1
-reply_fault (Refused refusal) = 0
+reply_fault (Ok Hit) = 0
+reply_fault (Ok Loaded) = 1
+reply_fault (Ok (Dropped p)) = 1
+reply_fault (Err refusal) = 0
 
 unfoldable pub fed_plan : List Reply → List ℕ
 fed_plan [] = []
@@ -122,8 +117,8 @@ fed_faults (r ∷ rs) = reply_fault r + fed_faults rs
 -- ---- document 01's numbers of a reply: a refusal's number and place; the kind 0 for a hit or a refusal, 1 for a load, 2 for a drop; the page dropped, else the mark
 
 abbrev pub reply_numbers : Reply → ReplyNumbers
-reply_numbers Hit = record { number = 0; place = 0; kind = 0; page = reply_word Hit }
-reply_numbers Loaded = record { number = 0; place = 0; kind = 1; page = reply_word Loaded }
-reply_numbers (Dropped p) = record { number = 0; place = 0; kind = 2; page = reply_word (Dropped p) }
-reply_numbers (Refused refusal) =
-    record { number = (table refusal).number; place = (table refusal).place; kind = 0; page = reply_word (Refused refusal) }
+reply_numbers (Ok Hit) = record { number = 0; place = 0; kind = 0; page = reply_word (Ok Hit) }
+reply_numbers (Ok Loaded) = record { number = 0; place = 0; kind = 1; page = reply_word (Ok Loaded) }
+reply_numbers (Ok (Dropped p)) = record { number = 0; place = 0; kind = 2; page = reply_word (Ok (Dropped p)) }
+reply_numbers (Err refusal) =
+    record { number = (table refusal).number; place = (table refusal).place; kind = 0; page = reply_word (Err refusal) }

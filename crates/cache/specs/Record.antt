@@ -2,14 +2,13 @@
 --
 -- A record is a state of the walk with its list of entries padded to 256 by blank ones, and a map of the frames that these entries occupy.
 -- Assumes nothing.
-use Rattle.std.specs.Prelude.{List, [], ◌∷◌, ◌++◌, ◌≡◌, ℕ, ◌+◌, ◌-◌, length, take, replicate}
+use Rattle.std.specs.Prelude.{List, [], ◌∷◌, ◌++◌, ◌≡◌, ℕ, ◌+◌, ◌-◌, length, take, replicate, Ok, Err}
 use Rattle.paging.specs.Lists.{not}
 use Rattle.paging.specs.Rules.{rule_numbered, named}
 use Rattle.paging.specs.Calls.{frame_limit, Test, test, gate, outside}
 use Rattle.paging.specs.declared.Entry.{Entry}
 use Rattle.paging.specs.declared.Rule.{Rule}
-use Rattle.paging.specs.declared.Gate.{Gate}
-use Rattle.paging.specs.declared.Gate.TheVariants.{Open, No}
+use Rattle.paging.specs.Refusals.{Gate}
 use Rattle.paging.specs.declared.Refusal.TheVariants.{UnknownRule, FramesOutside}
 use Rattle.entries.specs.Blank.{blank_entry}
 use Rattle.occupancy.specs.Map.{map_words, ones_of, map_of, Words}
@@ -68,8 +67,8 @@ unfoldable pub fresh_tests : ℕ → ℕ → List Test
 fresh_tests rule frames = test (not (feedable rule)) UnknownRule ∷ test (outside frames) (FramesOutside 0) ∷ []
 
 abbrev pub fresh_by : Gate → ℕ → ℕ → Fresh
-fresh_by Open rule frames = record { gate = Open; cache = empty_cache rule frames }
-fresh_by (No refusal) rule frames = record { gate = No refusal; cache = blank_cache }
+fresh_by (Ok nothing) rule frames = record { gate = (Ok tt); cache = empty_cache rule frames }
+fresh_by (Err refusal) rule frames = record { gate = Err refusal; cache = blank_cache }
 
 unfoldable pub fresh_of : ℕ → ℕ → Fresh
 unfolding fresh_tests gate

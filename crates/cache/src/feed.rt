@@ -1,78 +1,70 @@
 // The service Feed: one request takes a record and hands back the next one.
 ghost use Rattle.std.specs.Prelude.{◌≡◌};
-ghost use Rattle.cache.specs.Feed.{reply_of, fed, reply_numbers};
+ghost use Rattle.paging.specs.Calls.{gate};
+ghost use Rattle.cache.specs.Feed.{feed_tests, fed, reply_numbers};
 
-use crate::{Cache, Fed, Reply, ReplyNumbers};
+use crate::{Cache, Fed, ReplyNumbers, Served};
 use paging::{Outcome, Page, Refusal};
 
-fn reply(o: Outcome) -> Reply
-    ensures { result ≡ reply_of o }
-{
-    match o {
-        Outcome::Hit => Reply::Hit,
-        Outcome::Loaded => Reply::Loaded,
-        Outcome::Dropped(page) => Reply::Dropped(page),
-    }
-}
-
 impl Cache {
-    // Hit, loaded, or loaded with the page dropped, and the next record; or refusal 5, 4 or 8, in that order, and the record as it came.
+    // Refusal 5, 4 or 8, in that order.
+    #[tactic(auto, using(crate::proofs::Feeding::gate_on))]
+    fn feed_gate(&self, page: Page) -> Result<(), Refusal>
+        ensures { result ≡ gate (feed_tests self.now page.0) }
+    {
+        self.page_gate(page)?;
+        if self.clock == Cache::REQUESTS {
+            return Err(Refusal::ClockFull);
+        }
+        Ok(())
+    }
+
+    // Hit, loaded, or loaded with the page dropped, and the next record; or a refusal, and the record as it came.
+    #[tactic(auto, unfolding(crate::specs::Feed::fed))]
     pub fn feed(self, page: Page) -> Fed
         ensures { (result ≡ fed self page.0) × (reply_numbers result.outcome ≡ reply_numbers (fed self page.0).outcome) }
     {
-        if !self.sound() {
-            return Fed {
-                outcome: Reply::Refused(Refusal::UnsoundRecord),
+        match self.feed_gate(page) {
+            Ok(()) => {
+                let Served { outcome, next } = self.serve(page);
+                Fed {
+                    outcome: Ok(outcome),
+                    next,
+                }
+            }
+            Err(refusal) => Fed {
+                outcome: Err(refusal),
                 next: self,
-            };
-        }
-        if page.0 == paging::MARK {
-            return Fed {
-                outcome: Reply::Refused(Refusal::MarkRequested(0)),
-                next: self,
-            };
-        }
-        if self.clock == Cache::REQUESTS {
-            return Fed {
-                outcome: Reply::Refused(Refusal::ClockFull),
-                next: self,
-            };
-        }
-        let a = self.serve(page);
-        let o = a.outcome;
-        let next = a.next;
-        Fed {
-            outcome: reply(o),
-            next: next,
+            },
         }
     }
 }
 
-impl Reply {
-    // Document 01's numbers of a reply.
-    pub fn numbers(self) -> ReplyNumbers
-        ensures { result ≡ reply_numbers self }
-    {
-        match self {
-            Reply::Hit => ReplyNumbers {
+// Document 01's numbers of a reply.
+impl From<Result<Outcome, Refusal>> for ReplyNumbers {
+    ghost from_gives = { λ reply numbers. numbers ≡ reply_numbers reply };
+
+    fn from(reply: Result<Outcome, Refusal>) -> ReplyNumbers {
+        match reply {
+            Ok(Outcome::Hit) => ReplyNumbers {
                 number: 0,
                 place: 0,
                 kind: 0,
                 page: paging::MARK,
             },
-            Reply::Loaded => ReplyNumbers {
+            Ok(Outcome::Loaded) => ReplyNumbers {
                 number: 0,
                 place: 0,
                 kind: 1,
                 page: paging::MARK,
             },
-            Reply::Dropped(page) => ReplyNumbers {
+            Ok(Outcome::Dropped(page)) => ReplyNumbers {
                 number: 0,
                 place: 0,
                 kind: 2,
                 page: page.0,
             },
-            Reply::Refused(refusal) => ReplyNumbers {
+            Err(refusal) => ReplyNumbers {
                 number: refusal.number(),
                 place: refusal.place(),
                 kind: 0,

@@ -1,56 +1,41 @@
 // The service Frame: which frame of a record holds a page.
 ghost use Rattle.std.specs.Prelude.{◌≡◌};
-ghost use Rattle.cache.specs.Lookup.{lookup_of, looked_up, lookup_numbers};
+ghost use Rattle.cache.specs.Lookup.{looked_up, lookup_numbers};
 
-use crate::{Cache, Lookup, LookupNumbers};
-use paging::{Found, Page, Refusal};
-
-fn told(found: Found) -> Lookup
-    ensures { result ≡ lookup_of found }
-{
-    match found {
-        Found::At(frame) => Lookup::At(frame),
-        Found::Absent => Lookup::Absent,
-    }
-}
+use crate::{Cache, LookupNumbers};
+use paging::{Frame, Page, Refusal};
 
 impl Cache {
-    // The frame in use that holds the page, or absent; or refusal 5 or 4, in that order.
-    pub fn frame_of(self, page: Page) -> Lookup
+    // The frame in use that holds the page, or none; or a refusal.
+    #[tactic(auto, unfolding(crate::specs::Lookup::looked_up))]
+    pub fn frame_of(self, page: Page) -> Result<Option<Frame>, Refusal>
         ensures { (result ≡ looked_up self page.0) × (lookup_numbers result ≡ lookup_numbers (looked_up self page.0)) }
     {
-        if !self.sound() {
-            return Lookup::Refused(Refusal::UnsoundRecord);
-        }
-        if page.0 == paging::MARK {
-            return Lookup::Refused(Refusal::MarkRequested(0));
-        }
-        let map = self.map;
-        let held = occupancy::held(map);
-        let entries = self.entries;
-        told(entries::find(entries, held, page))
+        self.page_gate(page)?;
+        let held = occupancy::held(self.map);
+        Ok(entries::find(self.entries, held, page))
     }
 }
 
-impl Lookup {
-    // The numbers of an answer.
-    pub fn numbers(self) -> LookupNumbers
-        ensures { result ≡ lookup_numbers self }
-    {
-        match self {
-            Lookup::At(frame) => LookupNumbers {
+// The numbers of an answer.
+impl From<Result<Option<Frame>, Refusal>> for LookupNumbers {
+    ghost from_gives = { λ lookup numbers. numbers ≡ lookup_numbers lookup };
+
+    fn from(lookup: Result<Option<Frame>, Refusal>) -> LookupNumbers {
+        match lookup {
+            Ok(Some(frame)) => LookupNumbers {
                 number: 0,
                 place: 0,
                 held: 1,
                 frame: frame.0,
             },
-            Lookup::Absent => LookupNumbers {
+            Ok(None) => LookupNumbers {
                 number: 0,
                 place: 0,
                 held: 0,
                 frame: 0,
             },
-            Lookup::Refused(refusal) => LookupNumbers {
+            Err(refusal) => LookupNumbers {
                 number: refusal.number(),
                 place: refusal.place(),
                 held: 0,

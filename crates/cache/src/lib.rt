@@ -1,5 +1,6 @@
 // The cache record of document 01: its limits, the blank record, the empty cache of a given size, soundness, and the request of a sound record.
 // Feed is in feed.rt, which frame holds a page in frame.rt. What asks something of its caller is private.
+// A promise says the numbers beside the answer (gate_numbers, reply_numbers, lookup_numbers): no less may be promised.
 #![tactic(auto)]
 
 mod feed;
@@ -7,15 +8,18 @@ mod frame;
 
 ghost use Rattle.std.specs.Prelude.{◌≡◌, true, ◌<◌};
 ghost use Rattle.paging.specs.Refusals.{gate_numbers};
-ghost use Rattle.paging.specs.Calls.{request_limit};
-ghost use Rattle.cache.specs.Record.{blank_cache, empty_cache, fresh_of};
+ghost use Rattle.paging.specs.Calls.{request_limit, gate};
+ghost use Rattle.cache.specs.Record.{blank_cache, empty_cache, fresh_tests, fresh_of};
 ghost use Rattle.cache.specs.Sound.{sound};
 ghost use Rattle.cache.specs.Feed.{served};
+ghost use Rattle.cache.specs.Lookup.{lookup_tests};
 
-use paging::{Entry, Frame, Gate, Moment, Outcome, Page, Refusal};
+use paging::{Entry, Moment, Outcome, Page, Refusal};
+use steps::After;
 
 // The map has a bit for each frame, low bits first: how many are set is how many pages the cache holds.
-#[derive(Clone, Copy)]
+// Fixed arrays and no collection, as the library is linked into C with fixed memory; a number for the rule, as a record comes in words and any number may stand there.
+#[derive(Clone, Copy, Debug, PartialEq, Eq)]
 pub struct Cache {
     pub rule: u32,
     pub frames: u32,
@@ -25,30 +29,23 @@ pub struct Cache {
 }
 
 // What Fresh hands back: the empty cache, or a refusal beside the blank record.
-#[derive(Clone, Copy)]
+// No Result: the record beside a refusal is part of the promise (fresh_of).
+#[derive(Clone, Copy, Debug, PartialEq, Eq)]
 pub struct Fresh {
-    pub gate: Gate,
+    pub gate: Result<(), Refusal>,
     pub cache: Cache,
 }
 
-// What serving a request came to, and the record after it.
+// What serving a request came to, and the record after it. No Fed: its clause (served) has no refusal. Copied alone: nobody compares or prints it.
 #[derive(Clone, Copy)]
 struct Served {
     pub outcome: Outcome,
     pub next: Cache,
 }
 
-// What Feed says of a request.
-#[derive(Clone, Copy)]
-pub enum Reply {
-    Hit,
-    Loaded,
-    Dropped(Page),
-    Refused(Refusal),
-}
-
 // Feed's reply in numbers: a refusal's number and place, the kind (0 hit or refused, 1 loaded, 2 dropped), and the page dropped, else the mark.
-#[derive(Clone, Copy)]
+// A number for the kind and the mark for none, since they leave by C (reply_numbers).
+#[derive(Clone, Copy, Debug, PartialEq, Eq)]
 pub struct ReplyNumbers {
     pub number: u32,
     pub place: u32,
@@ -56,23 +53,17 @@ pub struct ReplyNumbers {
     pub page: u32,
 }
 
-// What Feed hands back: its reply and the next record; a refused Feed hands back the record it got.
-#[derive(Clone, Copy)]
+// What Feed hands back: what the request came to or a refusal, and the next record; a refused Feed hands back the record it got.
+// No Result: the record beside a refusal is part of the promise (fed).
+#[derive(Clone, Copy, Debug, PartialEq, Eq)]
 pub struct Fed {
-    pub outcome: Reply,
+    pub outcome: Result<Outcome, Refusal>,
     pub next: Cache,
 }
 
-// Which frame of a record holds a page.
-#[derive(Clone, Copy)]
-pub enum Lookup {
-    At(Frame),
-    Absent,
-    Refused(Refusal),
-}
-
-// The answer in numbers: a refusal's number and place, whether a frame holds the page (1 or 0), and that frame; what an answer lacks is 0.
-#[derive(Clone, Copy)]
+// The answer of Frame in numbers: a refusal's number and place, whether a frame holds the page (1 or 0), and that frame; what an answer lacks is 0.
+// Numbers and no bool or Option, since they leave by C (lookup_numbers).
+#[derive(Clone, Copy, Debug, PartialEq, Eq)]
 pub struct LookupNumbers {
     pub number: u32,
     pub place: u32,
@@ -81,7 +72,7 @@ pub struct LookupNumbers {
 }
 
 impl Cache {
-    // The limits of every call; a record has so many entries, and its clock ends at so many requests.
+    // The limits of every call, in the types of a record's frames and clock: a record has so many entries, and its clock ends at so many requests.
     pub const FRAMES: u32 = calls::FRAMES;
 
     pub const REQUESTS: u32 = calls::REQUESTS as u32;
@@ -98,49 +89,69 @@ impl Cache {
         ensures { result ≡ empty_cache rule frames }
     {
         let blank = entries::blank_entry();
-        let entries = [blank; Cache::FRAMES as usize];
         Cache {
-            rule: rule,
-            frames: frames,
+            rule,
+            frames,
             clock: 0,
-            map: [0u64; occupancy::WORDS],
-            entries: entries,
+            map: [0; occupancy::WORDS],
+            entries: [blank; Cache::FRAMES as usize],
         }
     }
 
-    // Rule 1, 2 or 4 and 1 to 256 frames: the empty cache. Else refusal 1, then 2, and the blank record.
+    // Refusal 1 or 2, in that order.
+    #[tactic(auto, unfolding(paging::specs::Calls::gate, crate::specs::Record::fresh_tests))]
+    fn fresh_gate(rule: u32, frames: u32) -> Result<(), Refusal>
+        ensures { result ≡ gate (fresh_tests rule frames) }
+    {
+        if !soundness::feedable(rule) {
+            return Err(Refusal::UnknownRule);
+        }
+        if calls::outside(frames) {
+            return Err(Refusal::FramesOutside(0));
+        }
+        Ok(())
+    }
+
+    // Rule 1, 2 or 4 and 1 to 256 frames: the empty cache. Else a refusal, and the blank record.
+    // A number for the rule: refusal 1 is for any other (fresh_of).
+    #[tactic(auto, unfolding(crate::specs::Record::fresh_of))]
     pub fn fresh(rule: u32, frames: u32) -> Fresh
         ensures { (result ≡ fresh_of rule frames) × (gate_numbers result.gate ≡ gate_numbers (fresh_of rule frames).gate) }
     {
-        if !soundness::feedable(rule) {
-            return Fresh {
-                gate: Gate::No(Refusal::UnknownRule),
+        match Cache::fresh_gate(rule, frames) {
+            Ok(()) => Fresh {
+                gate: Ok(()),
+                cache: Cache::empty(rule, frames),
+            },
+            Err(refusal) => Fresh {
+                gate: Err(refusal),
                 cache: Cache::blank(),
-            };
-        }
-        if calls::outside(frames) {
-            return Fresh {
-                gate: Gate::No(Refusal::FramesOutside(0)),
-                cache: Cache::blank(),
-            };
-        }
-        Fresh {
-            gate: Gate::Open,
-            cache: Cache::empty(rule, frames),
+            },
         }
     }
 
     // Whether the record is sound.
+    #[tactic(auto, unfolding(crate::specs::Sound::sound))]
     pub fn sound(self) -> bool
         ensures { result ≡ sound self }
     {
-        let map = self.map;
-        if !occupancy::lowest_only(map) {
-            return false;
+        let held = occupancy::held(self.map);
+        occupancy::lowest_only(self.map)
+            && soundness::sound_parts(self.rule, self.frames, self.clock, held, self.entries)
+    }
+
+    // Refusal 5 or 4, in that order: whatever is asked about a page of the record.
+    #[tactic(auto, unfolding(paging::specs::Calls::gate, crate::specs::Lookup::lookup_tests))]
+    fn page_gate(&self, page: Page) -> Result<(), Refusal>
+        ensures { result ≡ gate (lookup_tests self.now page.0) }
+    {
+        if !self.sound() {
+            return Err(Refusal::UnsoundRecord);
         }
-        let held = occupancy::held(map);
-        let entries = self.entries;
-        soundness::sound_parts(self.rule, self.frames, self.clock, held, entries)
+        if page == Page(paging::MARK) {
+            return Err(Refusal::MarkRequested(0));
+        }
+        Ok(())
     }
 
     // One request of a sound record.
@@ -148,29 +159,26 @@ impl Cache {
         requires { (sound self ≡ true) × (self.clock < request_limit) }
         ensures { result ≡ served self page.0 }
     {
-        let map = self.map;
-        let entries = self.entries;
-        let s = steps::step(
+        let After {
+            outcome,
+            map,
+            entries,
+        } = steps::step(
             self.rule,
             self.frames,
             Moment(self.clock),
-            map,
-            entries,
+            self.map,
+            self.entries,
             page,
         );
-        let outcome = s.outcome;
-        let occupied = s.map;
-        let after = s.entries;
-        let next = Cache {
-            rule: self.rule,
-            frames: self.frames,
-            clock: self.clock + 1,
-            map: occupied,
-            entries: after,
-        };
         Served {
-            outcome: outcome,
-            next: next,
+            outcome,
+            next: Cache {
+                clock: self.clock + 1,
+                map,
+                entries,
+                ..self
+            },
         }
     }
 }

@@ -1,32 +1,19 @@
--- Laws of a search through a list from the front, for a loop that has passed some members.
+-- Laws of a search through a list from the front: a page found is among its members; the library's search is this one.
 -- Assumes nothing.
-use mathlib.Core.Path.{◌≡◌}
-use mathlib.Core.Bool.{true}
+use Rattle.std.specs.Prelude.{cond, Some, None, nat_lt, unwrap_or}
+use Rattle.std.specs.List.{position, position_or_len}
+use Rattle.std.proofs.lemmas.List.Recursion.{is_position_or_len}
+use mathlib.Core.Path.{◌≡◌, refl}
+use mathlib.Core.Bool.{Bool, true, false}
+use native.Mathlib.Omega.{arith}
 use mathlib.Core.List.{List}
 use Prim.Native.Nat.{ℕ, suc, ◌+◌, ◌≤◌, ◌<◌}
-use native.Mathlib.Numerals.{add-one}
 use lib.Dec.{eqb}
-use lib.ListN.{length, get_or, drop, drop_of_length-le}
-use lib.Seq.{drop-cons}
-use borrow.Author.Tests.{eq-eqb, ne_eqb}
-use Rattle.paging.specs.Lists.{mem, place_of}
+use lib.ListN.{length}
+use Rattle.paging.specs.Lists.{pick, mem, place_of}
+use Rattle.paging.specs.Rules.{next_of}
+use Rattle.paging.proofs.Choice.{next_le}
 use Rattle.paging.proofs.Lists.{index_passes, at_any}
-
-module _ (p : ℕ) (pages : List ℕ) (i : ℕ) where
-  -- the page stands here
-  pub place_here : i < length pages → get_or pages i 0 ≡ p → place_of p (drop i pages) ≡ 0
-  unfolding place_of
-  place_here h e = rw (drop-cons pages i 0 h, eq-eqb _ _ e)
-
-  -- it doesn't: the search goes on behind
-  pub place_on : i < length pages → (get_or pages i 0 ≡ p → ⊥) → place_of p (drop i pages) ≡ suc (place_of p (drop (i + 1) pages))
-  unfolding place_of
-  place_on h e = rw (drop-cons pages i 0 h, ne_eqb _ _ e, add-one)
-
-  -- nothing is left
-  pub place_end : length pages ≤ i → place_of p (drop i pages) ≡ 0
-  unfolding place_of
-  place_end h = rw (drop_of_length-le pages h)
 
 -- ---- found or not
 
@@ -34,3 +21,24 @@ module _ (p : ℕ) (pages : List ℕ) where
   pub found_mem : place_of p pages < length pages → mem p pages ≡ true
   unfolding mem place_of
   found_mem h = at_any (λ (q : ℕ). eqb q p) 0 pages (place_of p pages) h (index_passes (λ (q : ℕ). eqb q p) 0 pages h)
+
+-- ---- the library's search is this one
+
+module _ (p : ℕ) where
+  place_by : (pages : List ℕ) → place_of p pages ≡ position_or_len (λ (q : ℕ). eqb q p) pages
+  unfolding place_of
+  place_by = is_position_or_len (place_of p) (λ (q : ℕ). eqb q p) refl (λ q pages. go (eqb q p) (place_of p pages))
+    where
+      go : (b : Bool) (k : ℕ) → pick b 0 (suc k) ≡ cond b 0 (1 + k)
+      go true k = refl
+      go false k = omega arith
+
+  upto : (pages : List ℕ) → position_or_len (λ (q : ℕ). eqb q p) pages ≤ length pages
+  unfolding next_of
+  upto pages = rw (← place_by pages) (next_le pages p)
+
+  pub place_is : (pages : List ℕ) → unwrap_or (position (λ (q : ℕ). eqb q p) pages) (length pages) ≡ place_of p pages
+  place_is pages = rw (place_by pages) (go (position_or_len (λ (q : ℕ). eqb q p) pages) (length pages) (upto pages))
+    where
+      go : (k n : ℕ) → k ≤ n → unwrap_or (cond (nat_lt k n) (Some k) None) n ≡ k
+      go k n h = Prim.grind arith

@@ -1,10 +1,9 @@
 -- Document 01's numbers of an answer that counts: the faults; or the number and place of a refusal, and 0 for every other number.
 -- Assumes nothing.
-use Rattle.paging.specs.Refusals.{table}
-use Rattle.paging.specs.declared.Answer.{Answer}
-use Rattle.paging.specs.declared.Answer.TheVariants.{Faults, Refused}
+use Rattle.std.specs.Prelude.{Ok, Err}
+use Rattle.paging.specs.Refusals.{table, Answer}
 use Rattle.calls.specs.declared.AnswerNumbers.{AnswerNumbers}
 
 abbrev pub answer_numbers : Answer → AnswerNumbers
-answer_numbers (Faults faults) = record { faults = faults; number = 0; place = 0 }
-answer_numbers (Refused refusal) = record { faults = 0; number = (table refusal).number; place = (table refusal).place }
+answer_numbers (Ok faults) = record { faults = faults; number = 0; place = 0 }
+answer_numbers (Err refusal) = record { faults = 0; number = (table refusal).number; place = (table refusal).place }

@@ -2,6 +2,7 @@
 --
 -- In order: each old record and its new one; soundness; Fresh and the blank record; Feed; any list of requests; numbers beyond the map; the answers of the services.
 -- Assumes nothing.
+use Rattle.std.specs.Prelude.{Ok, Err}
 use mathlib.Core.Path.{◌≡◌, refl, sym, ap, ap₂, ◌∙◌, subst}
 use mathlib.Core.Logic.{◌↔◌}
 use mathlib.Core.Bool.{Bool, true, false}
@@ -10,13 +11,11 @@ use Prim.Native.Nat.{ℕ, ◌<◌}
 use native.Mathlib.Omega.{arith}
 use lib.ListN.{length, take, drop, length-take}
 use Rattle.paging.specs.Lists.{not, both}
-use Rattle.paging.specs.Refusals.{gate_numbers}
+use Rattle.paging.specs.Refusals.{gate_numbers, Gate}
 use Rattle.paging.specs.Rules.{no_requests}
 use Rattle.paging.specs.Walk.{outcome, next}
 use Rattle.paging.specs.Calls.{frame_limit, Test, test, gate}
 use Rattle.paging.specs.declared.Entry.{Entry}
-use Rattle.paging.specs.declared.Gate.{Gate}
-use Rattle.paging.specs.declared.Gate.TheVariants.{Open, No}
 use Rattle.paging.specs.declared.Refusal.TheVariants.{UnsoundRecord}
 use Rattle.paging.proofs.Frames.{next_size}
 use Rattle.occupancy.specs.Map.{lowest_only, Words}
@@ -26,11 +25,9 @@ use Rattle.soundness.proofs.Meaning.{met_means}
 use Rattle.cache.specs.declared.Cache.{Cache}
 use Rattle.cache.specs.declared.Fresh.{Fresh}
 use Rattle.cache.specs.declared.Fed.{Fed}
-use Rattle.cache.specs.declared.Reply.{Reply}
-use Rattle.cache.specs.declared.Reply.TheVariants.{Refused}
 use Rattle.cache.specs.Record.{blank_cache, held_of, holding, Formed, fresh_tests, fresh_by, fresh_of}
 use Rattle.cache.specs.Sound.{sound}
-use Rattle.cache.specs.Feed.{served, reply_of, feed_tests, fed_by, fed, feeding, reply_numbers}
+use Rattle.cache.specs.Feed.{Reply, served, feed_tests, fed_by, fed, feeding, reply_numbers}
 use Rattle.carried.specs.Old.{OldCache, OldFed, old_empty, old_blank, old_sound, old_fresh_by, old_fresh, old_entries, old_rule, old_served, old_tests, old_fed_by, old_fed, old_feeding, old_after}
 use Rattle.carried.specs.Carried.{Mapped, carried, carried_from, carried_fresh, carried_fed, after}
 
@@ -91,7 +88,7 @@ from_none_unsound d w none = go (lowest_only d.map) refl
 
 -- ---- FRESH, and the blank record
 
-empty_stays : (rule n : ℕ) → (fresh_by Open rule n).cache ≡ carried (old_empty rule n)
+empty_stays : (rule n : ℕ) → (fresh_by (Ok tt) rule n).cache ≡ carried (old_empty rule n)
 empty_stays rule n = ap emptied (sym map_none)
   where
     emptied : List ℕ → Cache
@@ -108,16 +105,16 @@ fresh_stays rule n = go (gate (fresh_tests rule n))
     handed g d = record { gate = g; cache = d }
 
     go : (g : Gate) → fresh_by g rule n ≡ carried_fresh (old_fresh_by g rule n)
-    go Open = ap (handed Open) (empty_stays rule n)
-    go (No refusal) = ap (handed (No refusal)) blank_stays
+    go (Ok tt) = ap (handed (Ok tt)) (empty_stays rule n)
+    go (Err refusal) = ap (handed (Err refusal)) blank_stays
 
 pub fresh_mapped : (rule n : ℕ) → Mapped (old_fresh rule n).cache
 unfolding old_fresh
 fresh_mapped rule n = go (gate (fresh_tests rule n))
   where
     go : (g : Gate) → Mapped (old_fresh_by g rule n).cache
-    go Open = omega arith
-    go (No refusal) = omega arith
+    go (Ok tt) = omega arith
+    go (Err refusal) = omega arith
 
 -- ---- FEED: the reply and the next record, refusals too
 
@@ -149,8 +146,8 @@ module _ (c : OldCache) (m : Mapped c) (p : ℕ) where
       both_parts r d = record { outcome = r; next = d }
 
       go : (g : Gate) → fed_by g (carried c) p ≡ carried_fed (old_fed_by g c p)
-      go Open = ap₂ both_parts (ap reply_of served_outcome) served_next
-      go (No refusal) = refl
+      go (Ok tt) = ap₂ both_parts (ap Ok served_outcome) served_next
+      go (Err refusal) = refl
 
   -- the next record has a new one too
   pub fed_mapped : Mapped (old_fed c p).next
@@ -167,8 +164,8 @@ module _ (c : OldCache) (m : Mapped c) (p : ℕ) where
           )
 
       any_gate : (g : Gate) → Mapped (old_served c p).next → Mapped (old_fed_by g c p).next
-      any_gate Open k = k
-      any_gate (No refusal) k = m
+      any_gate (Ok tt) k = k
+      any_gate (Err refusal) k = m
 
       go : (b : Bool) → old_sound c ≡ b → Mapped (old_fed_by (gate (old_tests c p)) c p).next
       go true s = any_gate (gate (old_tests c p)) (served_few s)
@@ -204,7 +201,7 @@ from_fresh rule n ps =
 
 -- ---- NUMBERS BEYOND THE MAP: such an old record was not sound, so Feed refused it and handed it back; no map has such a number of ones (`ones_all` of crate `occupancy`)
 
-pub beyond_refused : (c : OldCache) (p : ℕ) → frame_limit < c.held → (old_sound c ≡ false) × (◌≡◌ {A = OldFed} (old_fed c p) (record { outcome = Refused UnsoundRecord; next = c }))
+pub beyond_refused : (c : OldCache) (p : ℕ) → frame_limit < c.held → (old_sound c ≡ false) × (◌≡◌ {A = OldFed} (old_fed c p) (record { outcome = Err UnsoundRecord; next = c }))
 unfolding old_fed
 beyond_refused c p h =
     let s : old_sound c ≡ false = not_sound (old_sound c) refl in

@@ -2,13 +2,13 @@
 --
 -- In order: the record, there and back; what Fresh and Feed hand back; the record after a list of requests; a record computed both ways.
 -- Assumes nothing.
-use Rattle.std.specs.Prelude.{◌≡◌, refl, List, [], ◌∷◌, ℕ, ◌≤◌}
+use Rattle.std.specs.Prelude.{◌≡◌, refl, List, [], ◌∷◌, ℕ, ◌≤◌, Ok}
 use Rattle.paging.specs.Calls.{frame_limit}
+use Rattle.paging.specs.declared.Outcome.TheVariants.{Loaded, Dropped}
 use Rattle.occupancy.specs.Map.{map_of, ones_of}
 use Rattle.cache.specs.declared.Cache.{Cache}
 use Rattle.cache.specs.declared.Fresh.{Fresh}
 use Rattle.cache.specs.declared.Fed.{Fed}
-use Rattle.cache.specs.declared.Reply.TheVariants.{Loaded, Dropped}
 use Rattle.cache.specs.Record.{empty_cache, held_of}
 use Rattle.cache.specs.Feed.{fed, feeding}
 use Rattle.carried.specs.Old.{OldCache, OldFresh, OldFed, old_empty, old_feeding, old_after}
@@ -53,10 +53,10 @@ pub two_held_now : (after (empty_cache 1 3) (5 ∷ 6 ∷ [])).map ≡ 3 ∷ 0 �
 unfolding after map_of ones_of
 two_held_now = refl
 
-pub four_fed_now : feeding (empty_cache 1 3) (5 ∷ 6 ∷ 7 ∷ 8 ∷ []) ≡ Loaded ∷ Loaded ∷ Loaded ∷ Dropped (record { 0 = 5 }) ∷ []
+pub four_fed_now : feeding (empty_cache 1 3) (5 ∷ 6 ∷ 7 ∷ 8 ∷ []) ≡ Ok Loaded ∷ Ok Loaded ∷ Ok Loaded ∷ Ok (Dropped (record { 0 = 5 })) ∷ []
 unfolding feeding map_of ones_of
 four_fed_now = refl
 
-pub four_fed : (old_feeding (old_empty 1 3) (5 ∷ 6 ∷ 7 ∷ 8 ∷ []) ≡ Loaded ∷ Loaded ∷ Loaded ∷ Dropped (record { 0 = 5 }) ∷ []) × ((old_after (old_empty 1 3) (5 ∷ 6 ∷ 7 ∷ 8 ∷ [])).held ≡ 3)
+pub four_fed : (old_feeding (old_empty 1 3) (5 ∷ 6 ∷ 7 ∷ 8 ∷ []) ≡ Ok Loaded ∷ Ok Loaded ∷ Ok Loaded ∷ Ok (Dropped (record { 0 = 5 })) ∷ []) × ((old_after (old_empty 1 3) (5 ∷ 6 ∷ 7 ∷ 8 ∷ [])).held ≡ 3)
 unfolding old_feeding old_after
 four_fed = (refl, refl)

@@ -3,23 +3,20 @@
 --
 -- In order: the record; when it is sound; Fresh; one request; Feed; feeding requests one after the other.
 -- Assumes nothing.
-use Rattle.std.specs.Prelude.{Bool, List, [], ◌∷◌, ℕ, ◌+◌, eqb, length, take, replicate}
+use Rattle.std.specs.Prelude.{Bool, List, [], ◌∷◌, ℕ, ◌+◌, eqb, length, take, replicate, Ok, Err}
 use Rattle.paging.specs.Lists.{not}
 use Rattle.paging.specs.Rules.{mark, no_requests, rule_numbered, named}
 use Rattle.paging.specs.Walk.{outcome, next}
 use Rattle.paging.specs.Calls.{frame_limit, request_limit, Test, test, gate}
 use Rattle.paging.specs.declared.Entry.{Entry}
 use Rattle.paging.specs.declared.Rule.{Rule}
-use Rattle.paging.specs.declared.Gate.{Gate}
-use Rattle.paging.specs.declared.Gate.TheVariants.{Open, No}
+use Rattle.paging.specs.Refusals.{Gate}
 use Rattle.paging.specs.declared.Outcome.{Outcome}
 use Rattle.paging.specs.declared.Refusal.TheVariants.{UnsoundRecord, MarkRequested, ClockFull}
 use Rattle.entries.specs.Blank.{blank_entry}
 use Rattle.soundness.specs.Sound.{sound_parts}
 use Rattle.cache.specs.Record.{padded, fresh_tests}
-use Rattle.cache.specs.Feed.{reply_of}
-use Rattle.cache.specs.declared.Reply.{Reply}
-use Rattle.cache.specs.declared.Reply.TheVariants.{Refused}
+use Rattle.cache.specs.Feed.{Reply}
 
 -- ---- the record
 
@@ -50,8 +47,8 @@ pub record OldFresh : Type 0 where
   pub cache : OldCache
 
 abbrev pub old_fresh_by : Gate → ℕ → ℕ → OldFresh
-old_fresh_by Open rule frames = record { gate = Open; cache = old_empty rule frames }
-old_fresh_by (No refusal) rule frames = record { gate = No refusal; cache = old_blank }
+old_fresh_by (Ok nothing) rule frames = record { gate = (Ok tt); cache = old_empty rule frames }
+old_fresh_by (Err refusal) rule frames = record { gate = Err refusal; cache = old_blank }
 
 unfoldable pub old_fresh : ℕ → ℕ → OldFresh
 unfolding fresh_tests gate
@@ -96,8 +93,8 @@ pub record OldFed : Type 0 where
   pub next : OldCache
 
 abbrev pub old_fed_by : Gate → OldCache → ℕ → OldFed
-old_fed_by Open c p = record { outcome = reply_of (old_served c p).outcome; next = (old_served c p).next }
-old_fed_by (No refusal) c p = record { outcome = Refused refusal; next = c }
+old_fed_by (Ok nothing) c p = record { outcome = Ok (old_served c p).outcome; next = (old_served c p).next }
+old_fed_by (Err refusal) c p = record { outcome = Err refusal; next = c }
 
 unfoldable pub old_fed : OldCache → ℕ → OldFed
 unfolding old_tests gate old_served

@@ -1,6 +1,7 @@
 -- Count and Write a plan as services: the plan written keeps the plan rule with the faults answered, both answer the same number, and feeding gives both.
 -- Each holds of any accepted call: where Write a plan answers a number of faults, whatever the rule, the frames, the trace and the words.
 -- Assumes nothing.
+use Rattle.std.specs.Prelude.{Ok, Err}
 use mathlib.Core.Path.{◌≡◌, refl, sym, ap, ap₂, ◌∙◌}
 use mathlib.Core.Bool.{Bool, true, false}
 use mathlib.Core.List.{List, ◌++◌}
@@ -14,9 +15,7 @@ use Rattle.paging.specs.Walk.{faults, plan}
 use Rattle.paging.specs.Plans.{through, check}
 use Rattle.paging.specs.Calls.{gate, unknown, trace_tests, rule_tests}
 use Rattle.paging.specs.declared.Rule.{Rule}
-use Rattle.paging.specs.declared.Gate.{Gate}
-use Rattle.paging.specs.declared.Gate.TheVariants.{Open, No}
-use Rattle.paging.specs.declared.Answer.TheVariants.{Faults}
+use Rattle.paging.specs.Refusals.{Gate}
 use Rattle.paging.specs.declared.Refusal.TheVariants.{UnknownRule}
 use Rattle.paging.proofs.Own.{own_plan_accepted}
 use Rattle.paging.proofs.PlanRule.{check_extra}
@@ -34,20 +33,20 @@ use Rattle.counts.specs.Counts.{count_of, plan_tests, plan_answer, plan_words}
 use Rattle.counts.proofs.Chains.{count_open, same_answer_lem}
 
 -- an answer of faults comes through an open gate
-answer_open : (g : Gate) (f x : ℕ) → through g (Faults x) ≡ Faults f → (g ≡ Open) × (x ≡ f)
-answer_open Open f x e = (refl, (cc))
-answer_open (No refusal) f x e = absurd (let z : ◌≡◌ {A = ℕ} 0 1 = cc in omega arith)
+answer_open : (g : Gate) (f x : ℕ) → through g (Ok x) ≡ Ok f → (g ≡ Ok tt) × (x ≡ f)
+answer_open (Ok tt) f x e = (refl, (cc))
+answer_open (Err refusal) f x e = absurd (let z : ◌≡◌ {A = ℕ} 0 1 = cc in omega arith)
 
 -- a number that Count answers is the rule's faults
-pub count_is : (rule n : ℕ) (trace : List ℕ) (f : ℕ) → count_of rule n trace ≡ Faults f → faults (named (rule_numbered rule)) n trace ≡ f
+pub count_is : (rule n : ℕ) (trace : List ℕ) (f : ℕ) → count_of rule n trace ≡ Ok f → faults (named (rule_numbered rule)) n trace ≡ f
 unfolding count_of
 count_is rule n trace f e = (answer_open (gate (rule_tests rule n trace)) f (faults (named (rule_numbered rule)) n trace) e).1
 
-module _ (rule n : ℕ) (trace words : List ℕ) (f : ℕ) (said : plan_answer rule n trace words ≡ Faults f) where
+module _ (rule n : ℕ) (trace words : List ℕ) (f : ℕ) (said : plan_answer rule n trace words ≡ Ok f) where
   kind : Rule
   kind = named (rule_numbered rule)
 
-  accepted : (gate (plan_tests rule n trace words) ≡ Open) × (faults kind n trace ≡ f)
+  accepted : (gate (plan_tests rule n trace words) ≡ Ok tt) × (faults kind n trace ≡ f)
   unfolding plan_answer kind
   accepted = answer_open (gate (plan_tests rule n trace words)) f (faults (named (rule_numbered rule)) n trace) said
 
@@ -56,7 +55,7 @@ module _ (rule n : ℕ) (trace words : List ℕ) (f : ℕ) (said : plan_answer r
   unfolding gate rule_tests
   in_order = go (unknown (rule_numbered rule)) (count_open rule n trace words accepted.0).0
     where
-      go : (b : Bool) → pick b (No UnknownRule) (gate (trace_tests n trace)) ≡ Open → InOrder n trace
+      go : (b : Bool) → pick b (Err UnknownRule) (gate (trace_tests n trace)) ≡ Ok tt → InOrder n trace
       go true e = absurd (let z : ◌≡◌ {A = ℕ} 0 1 = cc in omega arith)
       go false e = (trace_open n trace).0 e
 
@@ -72,16 +71,16 @@ module _ (rule n : ℕ) (trace words : List ℕ) (f : ℕ) (said : plan_answer r
       ∙ ap (λ (k : ℕ). plan kind n trace ++ drop k words) plan_long
 
   -- WHAT WRITE A PLAN LEAVES keeps the plan rule for the same frames, with the faults that it answered
-  pub written_plan_accepted : check n trace (plan_words rule n trace words) ≡ Faults f
+  pub written_plan_accepted : check n trace (plan_words rule n trace words) ≡ Ok f
   unfolding kind
   written_plan_accepted =
       ap (check n trace) plan_then_rest
       ∙ check_extra n trace (plan kind n trace) (drop (length trace) words) plan_long
       ∙ own_plan_accepted kind n trace in_order.one_frame
-      ∙ ap Faults accepted.1
+      ∙ ap Ok accepted.1
 
   -- COUNT answers the same number
-  pub count_answers_the_same : count_of rule n trace ≡ Faults f
+  pub count_answers_the_same : count_of rule n trace ≡ Ok f
   count_answers_the_same = same_answer_lem rule n trace words accepted.0 ∙ said
 
   -- FEEDING the trace from an empty cache of rule 1, 2 or 4 gives that plan and that number
@@ -100,7 +99,7 @@ module _ (rule n : ℕ) (trace words : List ℕ) (f : ℕ) (said : plan_answer r
         ∙ accepted.1
 
   -- THE SAME FROM FRESH, where its gate is open
-  module _ (opens : (fresh_of rule n).gate ≡ Open) where
+  module _ (opens : (fresh_of rule n).gate ≡ Ok tt) where
     pub fresh_gives_the_words : fed_plan (feeding (fresh_of rule n).cache trace) ≡ take (length trace) (plan_words rule n trace words)
     fresh_gives_the_words = rw (fresh_empty rule n opens) (feeding_gives_the_words (fresh_in_order rule n opens).0)
 

@@ -4,7 +4,7 @@ use Rattle.std.specs.Prelude.{List, ◌++◌, ℕ}
 use Rattle.paging.specs.Rules.{rule_numbered, named}
 use Rattle.paging.specs.Calls.{Test, rule_tests, lent_tests}
 use Rattle.paging.specs.Services.{answered, written}
-use Rattle.paging.specs.declared.Answer.{Answer}
+use Rattle.paging.specs.Refusals.{Answer}
 
 -- Count: the faults, or refusal 1, 2, 3, 4 in that order
 unfoldable pub count_of : ℕ → ℕ → List ℕ → Answer

@@ -1,5 +1,5 @@
 // Entries of a cache record: the ways to write one, which frame in use holds a page, and which one the rule empties.
-// The record's 256 entries come as an array, beside how many are in use; a number above 256 counts as 256.
+// The record's 256 entries come as an array, beside how many are in use; a number above 256 counts as 256. So a record has them, in fixed memory: its type stands above, in crate `cache`.
 #![tactic(auto)]
 
 ghost use Rattle.std.specs.Prelude.{◌≡◌, take};
@@ -8,17 +8,21 @@ ghost use Rattle.paging.specs.Walk.{pages, loaded_at, renewed};
 ghost use Rattle.entries.specs.Blank.{blank_entry};
 ghost use Rattle.entries.specs.Devices.Search.{in_use, key_of, least_frame};
 
-use paging::{Entry, Found, Frame, Moment, Page};
+use paging::{Entry, Frame, Moment, Page};
+
+// How many entries a record has: one for each frame.
+pub const LENGTH: usize = calls::FRAMES as usize;
 
 // All marks.
 pub fn blank_entry() -> Entry
     ensures { result ≡ blank_entry }
 {
+    let unset = Moment(paging::MARK);
     Entry {
         page: Page(paging::MARK),
-        loaded: Moment(paging::MARK),
-        last: Moment(paging::MARK),
-        earlier: Moment(paging::MARK),
+        loaded: unset,
+        last: unset,
+        earlier: unset,
     }
 }
 
@@ -26,12 +30,11 @@ pub fn blank_entry() -> Entry
 pub fn loaded_at(now: Moment, page: Page) -> Entry
     ensures { result ≡ loaded_at now.0 page.0 }
 {
-    let none = Moment(paging::MARK);
     Entry {
-        page: page,
+        page,
         loaded: now,
         last: now,
-        earlier: none,
+        earlier: Moment(paging::MARK),
     }
 }
 
@@ -39,72 +42,50 @@ pub fn loaded_at(now: Moment, page: Page) -> Entry
 pub fn renewed(e: Entry, now: Moment) -> Entry
     ensures { result ≡ renewed now.0 e }
 {
-    let page = e.page;
-    let loaded = e.loaded;
-    let before = e.last;
     Entry {
-        page: page,
-        loaded: loaded,
         last: now,
-        earlier: before,
+        earlier: e.last,
+        ..e
     }
 }
 
 fn in_use(held: u32) -> usize
     ensures { result ≡ in_use held }
 {
-    if calls::FRAMES < held {
-        return calls::FRAMES as usize;
-    }
-    held as usize
+    held.min(calls::FRAMES) as usize
 }
 
 // The frame that holds a page.
-pub fn find(entries: [Entry; calls::FRAMES as usize], held: u32, page: Page) -> Found
+pub fn find(entries: [Entry; LENGTH], held: u32, page: Page) -> Option<Frame>
     ensures { result ≡ found page.0 (pages (take held entries)) }
 {
-    let end = in_use(held);
-    let mut i: usize = 0;
-    while i < end {
-        if entries[i].page.0 == page.0 {
-            return Found::At(Frame(i as u32));
-        }
-        i += 1;
-    }
-    Found::Absent
+    let at = entries[..in_use(held)].iter().position(|e| e.page == page)?;
+    Some(Frame(at as u32))
 }
 
 // A number for an entry: the one with the least is dropped. Under LRU-2 pages requested once come first, as moments of a sound record are below the limit of requests.
+// The rule is a number, as in a record: any may stand there, and each has a key (`key_of`).
 fn key(e: Entry, rule: u32) -> u64
     ensures { result ≡ key_of rule e }
 {
-    if rule == 1 {
-        return e.last.0 as u64;
+    match rule {
+        1 => e.last.0 as u64,
+        2 => e.loaded.0 as u64,
+        _ if e.earlier == Moment(paging::MARK) => e.last.0 as u64,
+        _ => calls::REQUESTS as u64 + e.earlier.0 as u64,
     }
-    if rule == 2 {
-        return e.loaded.0 as u64;
-    }
-    if e.earlier.0 == paging::MARK {
-        return e.last.0 as u64;
-    }
-    calls::REQUESTS as u64 + e.earlier.0 as u64
 }
 
-// The first frame in use whose entry has the least key; frame 0, if none is in use.
-pub fn least(entries: [Entry; calls::FRAMES as usize], held: u32, rule: u32) -> Frame
+// The first frame in use whose entry has the least key; frame 0 and no Option, if none is in use, as the clause says (`least_frame`).
+pub fn least(entries: [Entry; LENGTH], held: u32, rule: u32) -> Frame
     ensures { result.0 ≡ least_frame rule (take held entries) }
 {
-    let end = in_use(held);
-    let mut best: usize = 0;
-    let mut low = key(entries[0], rule);
-    let mut i: usize = 1;
-    while i < end {
-        let k = key(entries[i], rule);
-        if k < low {
-            best = i;
-            low = k;
-        }
-        i += 1;
+    let chosen = entries[..in_use(held)]
+        .iter()
+        .enumerate()
+        .min_by_key(|(_, e)| key(**e, rule));
+    match chosen {
+        Some((at, _)) => Frame(at as u32),
+        None => Frame(0),
     }
-    Frame(best as u32)
 }

@@ -1,8 +1,7 @@
 -- The numbers of each answer, in the order in which they are laid over the front of lent words.
 -- Assumes nothing.
 use Rattle.std.specs.Prelude.{List, [], ◌∷◌, ℕ, length}
-use Rattle.judge.specs.declared.Verdict.{Verdict}
-use Rattle.judge.specs.Better.{verdict_numbers, better_words}
+use Rattle.judge.specs.Better.{Verdict, verdict_numbers, better_words}
 
 -- number, place, which plan, its faults
 abbrev pub verdict_words : Verdict → List ℕ

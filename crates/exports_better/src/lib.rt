@@ -6,6 +6,7 @@ ghost use Rattle.judge.specs.Better.{better_of, better_words};
 ghost use Rattle.paging.specs.Services.{laid};
 ghost use Rattle.exports_better.specs.Words.{verdict_words, chosen_words};
 
+use judge::VerdictNumbers;
 use laying::lay;
 
 #[unsafe(no_mangle)]
@@ -18,12 +19,13 @@ pub extern "C" fn hedravos_better(
 )
     ensures { answer.new ≡ laid (verdict_words (better_of m trace.now first.now second.now)) answer.old }
 {
-    let told = judge::verdict_numbers(judge::better(m, trace, first, second));
+    let told = VerdictNumbers::from(judge::better(m, trace, first, second));
     let numbers = [told.number, told.place, told.which, told.faults];
     lay(&numbers, answer);
 }
 
 // The words that Better of two hands back, laid over the front of lent ones, and how many they are.
+#[tactic(auto, using(crate::proofs::Words::words_few))]
 #[unsafe(no_mangle)]
 pub extern "C" fn hedravos_better_words<'a>(
     m: u32,

@@ -7,8 +7,7 @@ use Rattle.paging.specs.Lists.{pick}
 use Rattle.paging.specs.Calls.{Test, test, gate}
 use Rattle.paging.specs.declared.Refusal.TheVariants.{LentTooShort}
 use Rattle.cache.specs.Record.{fresh_tests}
-use Rattle.cache.specs.Feed.{feed_tests, fed_by, fed}
-use Rattle.cache.specs.declared.Reply.{Reply}
+use Rattle.cache.specs.Feed.{Reply, feed_tests, fed_by, fed}
 use Rattle.records.specs.Records.{record_length, record_of, record_into}
 
 -- 6: so many words are too few for a record

@@ -2,14 +2,11 @@
 -- Assumes nothing.
 use Rattle.std.specs.Prelude.{List, [], ◌∷◌, ℕ}
 use Rattle.paging.specs.Lists.{pick}
-use Rattle.paging.specs.Refusals.{gate_numbers}
-use Rattle.paging.specs.declared.Gate.{Gate}
+use Rattle.paging.specs.Refusals.{gate_numbers, Gate}
 use Rattle.cache.specs.declared.Cache.{Cache}
-use Rattle.cache.specs.declared.Reply.{Reply}
-use Rattle.cache.specs.declared.Lookup.{Lookup}
 use Rattle.cache.specs.Sound.{sound}
-use Rattle.cache.specs.Feed.{reply_numbers}
-use Rattle.cache.specs.Lookup.{lookup_numbers}
+use Rattle.cache.specs.Feed.{Reply, reply_numbers}
+use Rattle.cache.specs.Lookup.{Lookup, lookup_numbers}
 
 -- number, place
 abbrev pub gate_words : Gate → List ℕ

@@ -1,7 +1,7 @@
 -- The numbers of each answer, in the order in which they are laid over the front of lent words.
 -- Assumes nothing.
 use Rattle.std.specs.Prelude.{List, [], ◌∷◌, ℕ}
-use Rattle.paging.specs.declared.Answer.{Answer}
+use Rattle.paging.specs.Refusals.{Answer}
 use Rattle.calls.specs.Answers.{answer_numbers}
 
 -- number, place, faults

@@ -7,15 +7,16 @@ ghost use Rattle.plans.specs.Check.{check_of};
 ghost use Rattle.paging.specs.Services.{laid};
 ghost use Rattle.exports_counts.specs.Words.{count_words};
 
+use calls::AnswerNumbers;
 use laying::lay;
-use paging::Answer;
+use paging::Refusal;
 
-fn put_count(counted: Answer, answer: &mut [u32])
+// As put_reply has it for replies, in crate `exports_cache`: other numbers.
+fn put_count(counted: Result<u32, Refusal>, answer: &mut [u32])
     ensures { answer.new ≡ laid (count_words counted) answer.old }
 {
-    let told = calls::answer_numbers(counted);
-    let numbers = [told.number, told.place, told.faults];
-    lay(&numbers, answer);
+    let told = AnswerNumbers::from(counted);
+    lay(&[told.number, told.place, told.faults], answer);
 }
 
 #[unsafe(no_mangle)]

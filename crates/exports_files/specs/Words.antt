@@ -1,8 +1,8 @@
 -- The numbers of each answer, in the order in which they are laid over the front of lent words.
 -- Assumes nothing.
 use Rattle.std.specs.Prelude.{List, [], ◌∷◌, ℕ}
-use Rattle.reading.specs.declared.ReadAnswer.{ReadAnswer}
-use Rattle.bundle.specs.declared.WriteAnswer.{WriteAnswer}
+use Rattle.reading.specs.Reading.{ReadAnswer}
+use Rattle.bundle.specs.Writing.{WriteAnswer}
 use Rattle.reading.specs.Numbers.{read_numbers}
 use Rattle.bundle.specs.Numbers.{write_numbers}
 

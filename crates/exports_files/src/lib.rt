@@ -8,7 +8,9 @@ ghost use Rattle.bundle.specs.Writing.{write_of, room_left};
 ghost use Rattle.paging.specs.Services.{laid};
 ghost use Rattle.exports_files.specs.Words.{read_words, write_words};
 
+use bundle::WriteNumbers;
 use laying::lay;
+use reading::ReadNumbers;
 
 #[unsafe(no_mangle)]
 pub extern "C" fn hedravos_read(
@@ -21,7 +23,7 @@ pub extern "C" fn hedravos_read(
     ensures plan { plan.new ≡ plan_left bytes.now (length requests.old) plan.old }
     ensures answer { answer.new ≡ laid (read_words (read_of bytes.now (length requests.old) (length plan.old))) answer.old }
 {
-    let told = reading::read_numbers(bundle::read(bytes, requests, plan));
+    let told = ReadNumbers::from(bundle::read(bytes, requests, plan));
     let numbers = [
         told.number,
         told.place,
@@ -45,7 +47,7 @@ pub extern "C" fn hedravos_write(
     ensures room { room.new ≡ room_left n m trace.now plan.now room.old }
     ensures answer { answer.new ≡ laid (write_words (write_of n m trace.now plan.now (length room.old))) answer.old }
 {
-    let told = bundle::write_numbers(bundle::write(n, m, trace, plan, room));
+    let told = WriteNumbers::from(bundle::write(n, m, trace, plan, room));
     let numbers = [told.number, told.place, told.bytes];
     lay(&numbers, answer);
 }

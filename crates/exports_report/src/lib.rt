@@ -15,6 +15,5 @@ pub extern "C" fn hedravos_report(file: &[u8], room: &mut [u8], answer: &mut [u3
     ensures answer { answer.new ≡ laid (text_words (report_of file.now) (length room.old)) answer.old }
 {
     let bytes = reporting::report(file, room) as u32;
-    let numbers = [bytes];
-    lay(&numbers, answer);
+    lay(&[bytes], answer);
 }

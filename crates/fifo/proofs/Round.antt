@@ -16,20 +16,12 @@ use Rattle.paging.specs.declared.Rule.TheVariants.{Fifo}
 use Rattle.paging.specs.declared.Outcome.{Outcome}
 use Rattle.paging.proofs.Lists.{length_snoc, set_cases}
 use Rattle.paging.proofs.Choice.{least_index}
-use Rattle.walks.specs.Tied.{Tied}
-use Rattle.walks.proofs.Walking.{Way, Served, way_serves, size}
+use Rattle.paging.specs.declared.Frame.{Frame}
+use Rattle.paging.proofs.Frames.{held_at_most}
+use Rattle.walks.specs.Tied.{held_before, choice_at, seat_at, told_at, Within}
+use Rattle.walks.proofs.Walking.{Way, Served, way_serves, size, seat_way}
+use Rattle.fifo.specs.Round.{Before, Round}
 use Rattle.fifo.specs.Devices.{next_after}
-
--- frame i comes before frame j, where the frames go round from `next`
-abbrev Before : ℕ → ℕ → ℕ → Type 0
-Before next i j = ((next ≤ i) × (i < j)) ⊎ ((next ≤ i) × (j < next)) ⊎ ((i < j) × (j < next))
-
--- just before moment t: while there is room the frame of the next fault is the next free one; the pages held were loaded in the order of their frames from it on
-pub record Round (n t next : ℕ) (es : List Entry) : Type 0 where
-  pub within : next < n
-  pub filling : length es < n → next ≡ length es
-  pub young : (j : ℕ) → j < length es → (entry_at es j).loaded.0 < t
-  pub ordered : (i j : ℕ) → i < length es → j < length es → Before next i j → (entry_at es i).loaded.0 < (entry_at es j).loaded.0
 
 pub round_starts : (n : ℕ) → 1 ≤ n → Round n 0 0 []
 round_starts n some =
@@ -151,8 +143,20 @@ module _ (n t next : ℕ) (es : List Entry) (r : Round n t next es) where
           let size : length es' ≡ length es = ap length is ∙ length-set es f (loaded_at t p) in
           fault_in q e (λ l. absurd (omega (arith, size)))
 
--- in a full cache the walk knows which page goes
-pub round_knows : (n : ℕ) (trace : List ℕ) (t held next : ℕ) (words counts hints : List ℕ) → Tied Fifo n trace t held words counts hints → Round n t next (entries_at Fifo n trace t)
-    → n ≤ held → next ≡ chosen Fifo (sees_at trace t) (entries_at Fifo n trace t)
-round_knows n trace t held next words counts hints x r full =
-    next_chosen n t next (entries_at Fifo n trace t) r (sees_at trace t) (omega (arith, size Fifo n trace t held words counts hints x))
+-- ---- at a moment of the walk
+
+-- in a full cache the policy knows which page goes
+pub round_knows : (n : ℕ) (trace : List ℕ) (t next : ℕ) → Round n t next (entries_at Fifo n trace t)
+    → (held : List ℕ) → held ≡ held_before Fifo n trace t → n ≤ length held → next ≡ choice_at Fifo n trace t
+unfolding choice_at
+round_knows n trace t next r held same full =
+    let l : length held ≡ length (held_before Fifo n trace t) = ap length same in
+    next_chosen n t next (entries_at Fifo n trace t) r (sees_at trace t) (omega (arith, full, size Fifo n trace t))
+
+-- and a request keeps it so
+pub round_keeps : (n : ℕ) (trace : List ℕ) (t next : ℕ) → Round n t next (entries_at Fifo n trace t) → Within n trace t
+    → (frame : Frame) → frame.0 ≡ seat_at Fifo n trace t → (o : Outcome) → o ≡ told_at Fifo n trace t → (later : ℕ) → later ≡ next_after (fault_of o) next n
+    → Round n (t + 1) later (entries_at Fifo n trace (t + 1))
+round_keeps n trace t next r x frame is o told later e =
+    round_steps n t next (entries_at Fifo n trace t) r _ _ (told_at Fifo n trace t) frame.0 _ (seat_way Fifo n trace t x.some frame is)
+    (held_at_most Fifo n trace (t + 1)) (fault_of o) (ap fault_of told) later e

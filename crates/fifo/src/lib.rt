@@ -1,24 +1,26 @@
 // FIFO over a whole trace: its count and its plan. The frames are filled one after another, and their pages then go in the same order, round and round:
-// so the walk carries the frame of the next fault, which is the next free one or, in a full cache, that of the page loaded earliest.
-//
-// A walk owns the held pages with their index (crate `held`), and lends them to each request as slices of numbers.
+// so the policy carries the frame of the next fault, which is the next free one or, in a full cache, that of the page loaded earliest.
 #![tactic(auto)]
 
 ghost use Rattle.std.specs.Prelude.{◌≡◌, ◌≤◌, ◌<◌, length};
-ghost use Rattle.paging.specs.Walk.{faults, plan};
-ghost use Rattle.paging.specs.Calls.{frame_limit, request_limit, trace_tests};
-ghost use Rattle.paging.specs.Services.{answered, laid, written};
+ghost use Rattle.paging.specs.Calls.{trace_tests};
+ghost use Rattle.paging.specs.Services.{answered, written};
+ghost use Rattle.paging.specs.Walk.{fault_of, entries_at};
 ghost use Rattle.paging.specs.declared.Rule.TheVariants.{Fifo};
+ghost use Rattle.walks.specs.Tied.{held_before, choice_at, seat_at, told_at, Within};
 ghost use Rattle.fifo.specs.Devices.{next_after};
+ghost use Rattle.fifo.specs.Round.{Round};
 
-use paging::{Answer, Frame, Gate, Page};
+use held::Held;
+use paging::{Frame, Outcome, Refusal};
+use walks::Policy;
 
-// The frame of the next fault in n frames, after a request with a fault or none: it goes on by one with each fault, from the last frame to the first.
-fn next_after(fault: u32, next: usize, n: usize) -> usize
+// The frame of the next fault in n frames, after a request that came to this: it goes on by one with each fault, from the last frame to the first.
+fn next_after(outcome: Outcome, next: usize, n: usize) -> usize
     requires { next < n }
-    ensures { result ≡ next_after fault next n }
+    ensures { result ≡ next_after (fault_of outcome) next n }
 {
-    if fault == 0 {
+    if outcome == Outcome::Hit {
         return next;
     }
     if next + 1 < n {
@@ -27,46 +29,34 @@ fn next_after(fault: u32, next: usize, n: usize) -> usize
     0
 }
 
-// Walks a trace from empty: its faults, and as much of its plan as there are lent words for. With no words it only counts.
-fn walked(n: u32, trace: &[u32], words: &mut [u32]) -> u32
-    requires { (1 ≤ n) × (n ≤ frame_limit) × (length trace.now ≤ request_limit) }
-    ensures { (result ≡ faults Fifo n trace.now) × (words.new ≡ laid (plan Fifo n trace.now) words.old) }
-{
-    let mut pages = [0u32; held::FRAMES];
-    let mut counts = [0u16; held::HASHES];
-    let mut hints = [0u8; held::HASHES];
-    let mut held: usize = 0;
-    let mut next: usize = 0;
-    let mut faults: u32 = 0;
-    let mut i: usize = 0;
-    while i < trace.len() {
-        let page = Page(trace[i]);
-        let goes = Frame(next as u32);
-        let seat = walks::serve(
-            n as usize,
-            page,
-            goes,
-            i,
-            held,
-            &mut pages,
-            &mut counts,
-            &mut hints,
-            words,
-        );
-        next = next_after(seat.fault, next, n as usize);
-        held = seat.held;
-        faults += seat.fault;
-        i += 1;
+// The frame of the next fault.
+#[derive(Drop)]
+pub struct FifoPolicy {
+    next: usize,
+}
+
+impl Policy for FifoPolicy {
+    ghost rule = { Fifo };
+
+    ghost Keeps = { λ policy n trace t. Round n t policy.next (entries_at Fifo n trace t) };
+
+    fn start() -> FifoPolicy {
+        FifoPolicy { next: 0 }
     }
-    faults
+
+    fn goes(&mut self, _n: usize, _trace: &[u32], _t: usize, _held: &Held) -> Frame {
+        Frame(self.next as u32)
+    }
+
+    fn served(&mut self, n: usize, _trace: &[u32], _t: usize, _frame: Frame, outcome: Outcome) {
+        self.next = next_after(outcome, self.next, n);
+    }
 }
 
 // FIFO's faults of a trace, or refusal 2, 3 or 4; as much of its plan as there are lent words for goes into them. A refusal keeps all words.
-pub fn run(n: u32, trace: &[u32], words: &mut [u32]) -> Answer
+// A line for each rule: its promise names the rule.
+pub fn run(n: u32, trace: &[u32], words: &mut [u32]) -> Result<u32, Refusal>
     ensures { (result ≡ answered (trace_tests n trace.now) Fifo n trace.now) × (words.new ≡ written (trace_tests n trace.now) Fifo n trace.now words.old) }
 {
-    match calls::trace_gate(n, trace) {
-        Gate::No(refusal) => Answer::Refused(refusal),
-        Gate::Open => Answer::Faults(walked(n, trace, words)),
-    }
+    walks::run::<FifoPolicy>(n, trace, words)
 }

@@ -1,5 +1,6 @@
 -- Laws of the count of a hash in a list of pages: how it changes with the list, and what it says of a page.
 -- Assumes nothing.
+use Rattle.std.specs.Prelude.{None}
 use mathlib.Core.Path.{◌≡◌, ap, ◌∙◌}
 use mathlib.Core.Bool.{Bool, true, false}
 use mathlib.Core.List.{List, [], ◌∷◌, ◌++◌}
@@ -12,7 +13,6 @@ use borrow.Author.Tests.{eq-eqb, ne_eqb}
 use Rattle.paging.specs.Lists.{pick}
 use Rattle.paging.specs.Meanings.{In}
 use Rattle.paging.specs.Held.{found}
-use Rattle.paging.specs.declared.Found.TheVariants.{Absent}
 use Rattle.paging.proofs.Held.{absent_exactly}
 use Rattle.held.specs.Index.{hashes, hash_of, hits, hashed}
 
@@ -76,13 +76,13 @@ counted_in : (p : ℕ) (xs : List ℕ) (i : ℕ) → i < length xs → get_or xs
 counted_in p xs i l e = hits_own (hash_of p) (get_or xs i 0) (ap hash_of e)
 
 -- nothing has the page's hash: the page is absent
-pub none_hashed : (p : ℕ) (xs : List ℕ) → hashed (hash_of p) xs ≡ 0 → found p xs ≡ Absent
+pub none_hashed : (p : ℕ) (xs : List ℕ) → hashed (hash_of p) xs ≡ 0 → found p xs ≡ None
 none_hashed p xs e =
     (absent_exactly p xs).1 (λ (s : In p xs). let (i, l, q) = s in omega (arith, e, hashed_at (hash_of p) xs i l, counted_in p xs i l q))
 
 -- one has it, and that is another page: the page is absent
 pub one_other : (p : ℕ) (xs : List ℕ) (f : ℕ) → hashed (hash_of p) xs ≡ 1 → f < length xs → hash_of (get_or xs f 0) ≡ hash_of p
-    → (get_or xs f 0 ≡ p → ⊥) → found p xs ≡ Absent
+    → (get_or xs f 0 ≡ p → ⊥) → found p xs ≡ None
 one_other p xs f e l same other = (absent_exactly p xs).1 two
   where
     two : In p xs → ⊥

@@ -2,6 +2,7 @@
 --
 -- In order: one count raised, one lowered; what the index says of a page; a page loaded, a page in place of another; nothing held.
 -- Assumes nothing.
+use Rattle.std.specs.Prelude.{Some, None}
 use mathlib.Core.Path.{◌≡◌, sym, ap, ◌∙◌}
 use mathlib.Core.List.{List, [], ◌∷◌, ◌++◌}
 use Prim.Native.Nat.{ℕ, ◌+◌, ◌-◌, ◌≤◌, ◌<◌}
@@ -13,7 +14,6 @@ use lib.Seq.{get_or-set_same, get_or-set_other, get_or-take, length-take-le, tak
 use Rattle.paging.specs.Lists.{place_of}
 use Rattle.paging.specs.Calls.{frame_limit}
 use Rattle.paging.specs.Held.{found}
-use Rattle.paging.specs.declared.Found.TheVariants.{At, Absent}
 use Rattle.paging.proofs.Held.{apart_nil, apart_snoc, apart_set, absent_exactly, found_only, found_there, found_nowhere, place_out}
 use Rattle.calls.proofs.Search.{found_mem}
 use Rattle.held.specs.Index.{hashes, hash_of, hits, hashed, Indexed}
@@ -34,7 +34,7 @@ module _ (cs : List ℕ) (p h : ℕ) (e : h ≡ hash_of p) (l : h < length cs) (
     | no q ↦ rw (get_or-set_other cs h k (get_or cs h 0 - 1) 0 q, hits_other k p (λ r. q (sym r ∙ sym e))) (omega arith)
   ]
 
-module _ (held : ℕ) (words counts hints : List ℕ) (x : Indexed held words counts hints) where
+module _ (held : ℕ) (words counts : List ℕ) (x : Indexed held words counts) where
   pub held_length : length (take held words) ≡ held
   held_length = length-take-le held words (omega (arith, x.room, x.few))
 
@@ -45,25 +45,25 @@ module _ (held : ℕ) (words counts hints : List ℕ) (x : Indexed held words co
     counted = rw e (x.right (hash_of p) (hash_below p))
 
     -- none has its hash
-    pub absent_zero : get_or counts h 0 ≡ 0 → Absent ≡ found p (take held words)
+    pub absent_zero : get_or counts h 0 ≡ 0 → None ≡ found p (take held words)
     absent_zero z = sym (none_hashed p (take held words) (sym counted ∙ z))
 
     -- one has its hash, and that is another page
-    pub absent_one : get_or counts h 0 ≡ 1 → (f : ℕ) → f < held → (get_or words f 0 ≡ p → ⊥) → hash_of (get_or words f 0) ≡ h → Absent ≡ found p (take held words)
+    pub absent_one : get_or counts h 0 ≡ 1 → (f : ℕ) → f < held → (get_or words f 0 ≡ p → ⊥) → hash_of (get_or words f 0) ≡ h → None ≡ found p (take held words)
     absent_one z f l other same =
         let at : get_or (take held words) f 0 ≡ get_or words f 0 = get_or-take held words f 0 l in
         sym (one_other p (take held words) f (sym counted ∙ z) (rw held_length l) (ap hash_of at ∙ same ∙ e) (λ q. other (sym at ∙ q)))
 
   -- a frame in use has it
-  pub found_hinted : (p f : ℕ) → f < held → get_or words f 0 ≡ p → At (record { 0 = f }) ≡ found p (take held words)
+  pub found_hinted : (p f : ℕ) → f < held → get_or words f 0 ≡ p → Some (record { 0 = f }) ≡ found p (take held words)
   found_hinted p f l e = sym (found_only p (take held words) x.apart f (rw held_length l) (get_or-take held words f 0 l ∙ e))
 
   -- the search from the front came upon it, or to the end
   module _ (p at : ℕ) (e : at ≡ place_of p (take held words)) where
-    pub found_searched : at < held → At (record { 0 = at }) ≡ found p (take held words)
+    pub found_searched : at < held → Some (record { 0 = at }) ≡ found p (take held words)
     found_searched l = rw e (sym (found_there p (take held words) (found_mem p (take held words) (rw (held_length, ← e) l))))
 
-    pub absent_searched : held ≤ at → Absent ≡ found p (take held words)
+    pub absent_searched : held ≤ at → None ≡ found p (take held words)
     absent_searched l = sym (found_nowhere p (take held words) (place_out p (take held words) (rw (held_length, ← e) l)))
 
   -- ---- a page loaded, a page in place of another
@@ -90,21 +90,20 @@ module _ (held : ℕ) (words counts hints : List ℕ) (x : Indexed held words co
   pub replace_pages : (p f : ℕ) → f < held → take held (set words f p) ≡ set (take held words) f p
   replace_pages p f l = take-set-lt held words f p l
 
-  module _ (p h v : ℕ) (e : h ≡ hash_of p) (absent : found p (take held words) ≡ Absent) where
-    pub load_keeps : held < frame_limit → Indexed (held + 1) (set words held p) (set counts h (get_or counts h 0 + 1)) (set hints h v)
+  module _ (p h : ℕ) (e : h ≡ hash_of p) (absent : found p (take held words) ≡ None) where
+    pub load_keeps : held < frame_limit → Indexed (held + 1) (set words held p) (set counts h (get_or counts h 0 + 1))
     load_keeps l =
         let s : h < length counts = rw (x.buckets, e) (hash_below p) in
         record {
           room = length-set words held p ∙ x.room;
           buckets = length-set counts h (get_or counts h 0 + 1) ∙ x.buckets;
-          guesses = length-set hints h v ∙ x.guesses;
           few = omega arith;
           apart = rw (load_pages p l) (apart_snoc (take held words) p x.apart ((absent_exactly p (take held words)).0 absent));
           right = λ k m. rw (load_pages p l, hashed_snoc k (take held words) p, ← x.right k m) (raised counts p h e s k);
         }
 
     pub replace_keeps : (f g : ℕ) → f < held → g ≡ hash_of (get_or words f 0) → (cs : List ℕ) → cs ≡ set counts g (get_or counts g 0 - 1)
-        → Indexed held (set words f p) (set cs h (get_or cs h 0 + 1)) (set hints h v)
+        → Indexed held (set words f p) (set cs h (get_or cs h 0 + 1))
     replace_keeps f g l q cs is =
         let b : length cs ≡ hashes = rw is (length-set counts g (get_or counts g 0 - 1) ∙ x.buckets) in
         let s : h < length cs = rw (b, e) (hash_below p) in
@@ -113,7 +112,6 @@ module _ (held : ℕ) (words counts hints : List ℕ) (x : Indexed held words co
         record {
           room = length-set words f p ∙ x.room;
           buckets = length-set cs h (get_or cs h 0 + 1) ∙ b;
-          guesses = length-set hints h v ∙ x.guesses;
           few = x.few;
           apart = rw (replace_pages p f l) (apart_set (take held words) f p x.apart ((absent_exactly p (take held words)).0 absent));
           right = λ k m.
@@ -126,13 +124,12 @@ module _ (held : ℕ) (words counts hints : List ℕ) (x : Indexed held words co
 
 -- ---- nothing held
 
-pub index_starts : Indexed 0 (replicate frame_limit 0) (replicate hashes 0) (replicate hashes 0)
+pub index_starts : Indexed 0 (replicate frame_limit 0) (replicate hashes 0)
 unfolding hashed
 index_starts =
     record {
       room = length-replicate {A = ℕ} frame_limit 0;
       buckets = length-replicate {A = ℕ} hashes 0;
-      guesses = length-replicate {A = ℕ} hashes 0;
       few = omega arith;
       apart = apart_nil;
       right = λ h l. get_or-replicate {A = ℕ} hashes h 0 0 l;

@@ -1,89 +1,60 @@
 -- A page put into a frame: the code's three ways, and what comes of it where the frame is the one for the page after its request.
 -- Assumes nothing.
+use Rattle.std.specs.Prelude.{Some, None}
 use mathlib.Core.Path.{◌≡◌, refl, sym, ap, ◌∙◌}
 use mathlib.Core.Logic.{◌⊎◌, inl, inr, ⊎_elim}
 use mathlib.Core.Bool.{Bool, true, false}
 use mathlib.Core.List.{List, [], ◌∷◌, ◌++◌}
-use Prim.Native.Nat.{ℕ, ◌+◌, ◌≤◌, ◌<◌}
+use Prim.Native.Nat.{ℕ, ◌≤◌, ◌<◌}
 use native.Mathlib.Omega.{arith}
 use native.Mathlib.Decide.{dec_lt}
 use lib.Dec.{ltb}
-use lib.ListN.{length, get_or, take, set}
-use lib.Seq.{get_or-take, set-get_or}
+use lib.ListN.{length, get_or, set}
+use lib.Seq.{set-get_or}
 use borrow.Author.Tests.{lt-ltb, le-ltb, eq-eqb, ne_eqb}
 use Rattle.paging.specs.Lists.{pick}
 use Rattle.paging.specs.Calls.{frame_limit}
-use Rattle.paging.specs.Held.{found, if_held, held_after, frame_after}
+use Rattle.paging.specs.Held.{found, if_held, held_after, frame_after, Found}
 use Rattle.paging.specs.Plans.{absent}
 use Rattle.paging.specs.Walk.{fault_of}
-use Rattle.paging.specs.declared.Found.{Found}
-use Rattle.paging.specs.declared.Found.TheVariants.{At, Absent}
 use Rattle.paging.specs.declared.Frame.{Frame}
 use Rattle.paging.specs.declared.Outcome.{Outcome}
 use Rattle.paging.specs.declared.Outcome.TheVariants.{Hit, Loaded, Dropped}
 use Rattle.paging.proofs.Held.{found_has, nowhere_found, absent_in}
-use Rattle.held.specs.Index.{Indexed}
-use Rattle.held.proofs.Keeping.{held_length}
-use Rattle.held.specs.Placing.{put_outcome, put_pages, put_count}
-
--- how many pages are held then
-pub count_stays : (f held : ℕ) → f < held → put_count f held ≡ held
-unfolding put_count
-count_stays f held h = rw (lt-ltb f held h)
-
-pub count_grows : (f held : ℕ) → held ≤ f → put_count f held ≡ held + 1
-unfolding put_count
-count_grows f held h = rw (le-ltb f held h)
+use Rattle.held.specs.Placing.{put_outcome, put_pages}
 
 -- in a full cache of n frames without page p one of the pages held goes
 abbrev pub Going : ℕ → ℕ → Found → List ℕ → Type 0
-Going n p goes held = found p held ≡ Absent → n ≤ length held → (g : ℕ) × (goes ≡ At (record { 0 = g })) × (g < length held)
+Going n p goes held = found p held ≡ None → n ≤ length held → (g : ℕ) × (goes ≡ Some (record { 0 = g })) × (g < length held)
 
-module _ (p : ℕ) (frame : Frame) (held : ℕ) (pages counts hints : List ℕ) (x : Indexed held pages counts hints) where
+module _ (p : ℕ) (frame : Frame) (before : List ℕ) where
   abbrev pub f : ℕ
   f = frame.0
 
-  abbrev pub before : List ℕ
-  before = take held pages
-
-  size : length before ≡ held
-  size = held_length held pages counts hints x
-
   -- what `put` ensures
-  abbrev pub Put : Outcome → List ℕ → List ℕ → List ℕ → Type 0
-  Put o pages' counts' hints' =
-      (o ≡ put_outcome p f before) × (Indexed (put_count f held) pages' counts' hints' × (take (put_count f held) pages' ≡ put_pages p f before))
+  abbrev pub Put : Outcome → List ℕ → Type 0
+  Put o after = (o ≡ put_outcome p f before) × (after ≡ put_pages p f before)
 
-  pub put_free : held ≤ f → (pages' counts' hints' : List ℕ) → Indexed (held + 1) pages' counts' hints' → take (held + 1) pages' ≡ before ++ (p ∷ [])
-      → Put Loaded pages' counts' hints'
+  pub put_free : length before ≤ f → Put Loaded (before ++ (p ∷ []))
   unfolding put_outcome put_pages
-  put_free h pages' counts' hints' index e =
-      let a : length before ≤ f = omega (arith, size) in
-      rw (count_grows f held h, le-ltb f (length before) a) (refl, (index, e))
+  put_free h = rw (le-ltb f (length before) h) (refl, refl)
 
-  pub put_hit : f < held → get_or pages f 0 ≡ p → Put Hit pages counts hints
+  pub put_hit : f < length before → get_or before f 0 ≡ p → Put Hit before
   unfolding put_outcome put_pages
   put_hit h e =
-      let a : f < length before = omega (arith, size) in
-      let q : get_or before f 0 ≡ p = get_or-take held pages f 0 h ∙ e in
-      rw (count_stays f held h, lt-ltb f (length before) a, eq-eqb (get_or before f 0) p q)
-      (refl, (x, sym (ap (set before f) (sym q) ∙ set-get_or before f 0)))
+      rw (lt-ltb f (length before) h, eq-eqb (get_or before f 0) p e) (refl, sym (ap (set before f) (sym e) ∙ set-get_or before f 0))
 
-  pub put_other : f < held → (get_or pages f 0 ≡ p → ⊥) → (pages' counts' hints' : List ℕ) → Indexed held pages' counts' hints' → take held pages' ≡ set before f p
-      → Put (Dropped (record { 0 = get_or pages f 0 })) pages' counts' hints'
+  pub put_other : f < length before → (get_or before f 0 ≡ p → ⊥) → Put (Dropped (record { 0 = get_or before f 0 })) (set before f p)
   unfolding put_outcome put_pages
-  put_other h other pages' counts' hints' index e =
-      let a : f < length before = omega (arith, size) in
-      let q : get_or before f 0 ≡ get_or pages f 0 = get_or-take held pages f 0 h in
-      rw (count_stays f held h, lt-ltb f (length before) a, q, ne_eqb (get_or pages f 0) p other) (refl, (index, e))
+  put_other h other = rw (lt-ltb f (length before) h, ne_eqb (get_or before f 0) p other) (refl, refl)
 
   -- a page that may stand in this frame alone, and doesn't, stands nowhere
-  module _ (fits : (found p before ≡ At frame) ⊎ (found p before ≡ Absent)) where
-    pub absent_free : held ≤ f → found p before ≡ Absent
-    absent_free h = ⊎_elim (λ e. absurd (omega (arith, (found_has p before frame e).0, size))) (λ e. e) fits
+  module _ (fits : (found p before ≡ Some frame) ⊎ (found p before ≡ None)) where
+    pub absent_free : length before ≤ f → found p before ≡ None
+    absent_free h = ⊎_elim (λ e. absurd (omega (arith, (found_has p before frame e).0))) (λ e. e) fits
 
-    pub absent_other : f < held → (get_or pages f 0 ≡ p → ⊥) → found p before ≡ Absent
-    absent_other h other = ⊎_elim (λ e. absurd (other (sym (get_or-take held pages f 0 h) ∙ (found_has p before frame e).1))) (λ e. e) fits
+    pub absent_other : (get_or before f 0 ≡ p → ⊥) → found p before ≡ None
+    absent_other other = ⊎_elim (λ e. absurd (other (found_has p before frame e).1)) (λ e. e) fits
 
   -- ---- the frame for the page after its request in n frames
 
@@ -91,44 +62,42 @@ module _ (p : ℕ) (frame : Frame) (held : ℕ) (pages counts hints : List ℕ) 
     -- a hit; a load with room; a load in place of the page that goes
     abbrev Ways : Type 0
     Ways =
-        (found p before ≡ At frame)
-        ⊎ ((found p before ≡ Absent) × (held < n) × (f ≡ held))
-        ⊎ ((found p before ≡ Absent) × (n ≤ held) × (f < held) × (goes ≡ At frame))
+        (found p before ≡ Some frame)
+        ⊎ ((found p before ≡ None) × (length before < n) × (f ≡ length before))
+        ⊎ ((found p before ≡ None) × (n ≤ length before) × (f < length before) × (goes ≡ Some frame))
 
     ways : Ways
     unfolding frame_after
     ways = go (found p before) refl
       where
         go : (x : Found) → found p before ≡ x → Ways
-        go (At g) e = inl (e ∙ ap (λ (k : ℕ). At (record { 0 = k })) (sym (is ∙ rw e refl)))
-        go Absent e =
-            elim (dec_lt held n) [
-              | yes h ↦
-                  let a : length before < n = omega (arith, size) in
-                  inr (inl (e, h, is ∙ rw (e, lt-ltb (length before) n a) size))
+        go (Some g) e = inl (e ∙ ap (λ (k : ℕ). Some (record { 0 = k })) (sym (is ∙ rw e refl)))
+        go None e =
+            elim (dec_lt (length before) n) [
+              | yes h ↦ inr (inl (e, h, is ∙ rw (e, lt-ltb (length before) n h) refl))
               | no h ↦
-                  let a : n ≤ length before = omega (arith, size) in
+                  let a : n ≤ length before = omega arith in
                   let (g, there, k) = going e a in
                   let q : f ≡ g = is ∙ rw (e, le-ltb (length before) n a, there) refl in
-                  inr (inr (e, omega arith, omega (arith, size), there ∙ ap (λ (k : ℕ). At (record { 0 = k })) (sym q)))
+                  inr (inr (e, a, omega arith, there ∙ ap (λ (k : ℕ). Some (record { 0 = k })) (sym q)))
             ]
 
     -- what `put` requires: the page stands in the frame already, or nowhere
-    pub put_fits : (f ≤ held) × ((found p before ≡ At frame) ⊎ (found p before ≡ Absent))
+    pub put_fits : (f ≤ length before) × ((found p before ≡ Some frame) ⊎ (found p before ≡ None))
     put_fits = go ways
       where
-        go : Ways → (f ≤ held) × ((found p before ≡ At frame) ⊎ (found p before ≡ Absent))
-        go (inl e) = (omega (arith, (found_has p before frame e).0, size), inl e)
+        go : Ways → (f ≤ length before) × ((found p before ≡ Some frame) ⊎ (found p before ≡ None))
+        go (inl e) = (omega (arith, (found_has p before frame e).0), inl e)
         go (inr (inl (e, h, q))) = (omega arith, inr e)
         go (inr (inr (e, h, k, q))) = (omega arith, inr e)
 
-    pub put_small : n ≤ frame_limit → f < frame_limit
-    put_small small = go ways
+    pub put_small : n ≤ frame_limit → length before ≤ frame_limit → f < frame_limit
+    put_small small few = go ways
       where
         go : Ways → f < frame_limit
-        go (inl e) = omega (arith, (found_has p before frame e).0, size, x.few)
+        go (inl e) = omega (arith, (found_has p before frame e).0)
         go (inr (inl (e, h, q))) = omega arith
-        go (inr (inr (e, h, k, q))) = omega (arith, x.few)
+        go (inr (inr (e, h, k, q))) = omega arith
 
     -- the pages held then
     pub put_after : put_pages p f before ≡ held_after n p goes before
@@ -140,12 +109,12 @@ module _ (p : ℕ) (frame : Frame) (held : ℕ) (pages counts hints : List ℕ) 
             let (h, q, _) = found_has p before frame e in
             rw (e, lt-ltb f (length before) h) (ap (set before f) (sym q) ∙ set-get_or before f 0)
         go (inr (inl (e, h, q))) =
-            let a : length before ≤ f = omega (arith, size) in
-            let b : length before < n = omega (arith, size) in
+            let a : length before ≤ f = omega arith in
+            let b : length before < n = omega arith in
             rw (e, le-ltb f (length before) a, lt-ltb (length before) n b)
         go (inr (inr (e, h, k, q))) =
-            let a : f < length before = omega (arith, size) in
-            let b : n ≤ length before = omega (arith, size) in
+            let a : f < length before = omega arith in
+            let b : n ≤ length before = omega arith in
             rw (e, lt-ltb f (length before) a, le-ltb (length before) n b, q)
 
     -- a hit where the page was held; a load with room; else the page that goes is dropped
@@ -163,12 +132,12 @@ module _ (p : ℕ) (frame : Frame) (held : ℕ) (pages counts hints : List ℕ) 
             let (h, q, _) = found_has p before frame e in
             rw (e, lt-ltb f (length before) h, eq-eqb (get_or before f 0) p q)
         go (inr (inl (e, h, q))) =
-            let a : length before ≤ f = omega (arith, size) in
-            let b : length before < n = omega (arith, size) in
+            let a : length before ≤ f = omega arith in
+            let b : length before < n = omega arith in
             rw (e, le-ltb f (length before) a, lt-ltb (length before) n b)
         go (inr (inr (e, h, k, q))) =
-            let a : f < length before = omega (arith, size) in
-            let b : n ≤ length before = omega (arith, size) in
+            let a : f < length before = omega arith in
+            let b : n ≤ length before = omega arith in
             let out : get_or before f 0 ≡ p → ⊥ = λ y. absent_in p before (nowhere_found p before e) (f, a, y) in
             rw (e, lt-ltb f (length before) a, le-ltb (length before) n b, ne_eqb (get_or before f 0) p out, q)
 
@@ -179,7 +148,7 @@ module _ (p : ℕ) (frame : Frame) (held : ℕ) (pages counts hints : List ℕ) 
         go : (a : Found) (b : Bool) (c : Found)
             → fault_of (if_held a (λ (g : ℕ). Hit) (pick b Loaded (if_held c (λ (g : ℕ). Dropped (record { 0 = get_or before g 0 })) Loaded)))
             ≡ if_held a (λ (g : ℕ). 0) 1
-        go (At g) b c = refl
-        go Absent true c = refl
-        go Absent false (At g) = refl
-        go Absent false Absent = refl
+        go (Some g) b c = refl
+        go None true c = refl
+        go None false (Some g) = refl
+        go None false None = refl

@@ -2,10 +2,11 @@
 --
 -- In order: hashes; how often one occurs; the pages held with their index.
 -- Assumes nothing.
-use Rattle.std.specs.Prelude.{◌≡◌, List, [], ◌∷◌, ℕ, ◌+◌, ◌*◌, ◌/◌, ◌%◌, ◌≤◌, ◌<◌, eqb, length, get_or, take}
+use Rattle.std.specs.Prelude.{◌≡◌, List, [], ◌∷◌, map, ℕ, ◌+◌, ◌*◌, ◌/◌, ◌%◌, ◌≤◌, ◌<◌, eqb, length, get_or, take}
 use Rattle.paging.specs.Lists.{pick}
 use Rattle.paging.specs.Calls.{frame_limit}
 use Rattle.paging.specs.Meanings.{Apart}
+use Rattle.held.specs.declared.Bucket.{Bucket}
 
 -- ---- hashes
 
@@ -31,11 +32,14 @@ hashed h (p ∷ ps) = hits h p + hashed h ps
 
 -- ---- the pages held with their index
 
--- the first `held` words are the pages held, all different, and every count is right; of the hints only their number is said
-pub record Indexed (held : ℕ) (words counts hints : List ℕ) : Type 0 where
+-- how many held pages have each hash
+abbrev pub counts_of : List Bucket → List ℕ
+counts_of buckets = map (λ (b : Bucket). b.count) buckets
+
+-- the first `held` words are the pages held, all different, and every count is right
+pub record Indexed (held : ℕ) (words counts : List ℕ) : Type 0 where
   pub room : length words ≡ frame_limit
   pub buckets : length counts ≡ hashes
-  pub guesses : length hints ≡ hashes
   pub few : held ≤ frame_limit
   pub apart : Apart (take held words)
   pub right : (h : ℕ) → h < hashes → get_or counts h 0 ≡ hashed h (take held words)

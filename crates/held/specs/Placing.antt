@@ -1,6 +1,6 @@
 -- A page put into a frame, the lowest free one or one in use: what comes of it.
 -- Assumes nothing.
-use Rattle.std.specs.Prelude.{List, [], ◌∷◌, ◌++◌, ℕ, ◌+◌, eqb, ltb, length, get_or, set}
+use Rattle.std.specs.Prelude.{List, [], ◌∷◌, ◌++◌, ℕ, eqb, ltb, length, get_or, set}
 use Rattle.paging.specs.Lists.{pick}
 use Rattle.paging.specs.declared.Outcome.{Outcome}
 use Rattle.paging.specs.declared.Outcome.TheVariants.{Hit, Loaded, Dropped}
@@ -13,7 +13,3 @@ put_outcome p f held =
 -- the pages held then
 unfoldable pub put_pages : ℕ → ℕ → List ℕ → List ℕ
 put_pages p f held = pick (ltb f (length held)) (set held f p) (held ++ (p ∷ []))
-
--- how many they are
-unfoldable pub put_count : ℕ → ℕ → ℕ
-put_count f held = pick (ltb f held) held (held + 1)

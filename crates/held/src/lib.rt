@@ -1,118 +1,157 @@
-// The pages held, in frame order, with an index, for a walk over a whole trace: three arrays that the walk owns and lends to each request.
+// The pages held, in frame order, with an index, for a walk over a whole trace: a `Held` is seen as the list of its pages.
 // Which frame holds a page, a page loaded into the next free frame, a page in place of another, and a page put into a frame in whichever of these ways.
-//
-// `pages` has the page of each frame, of which the first `held` are in use.
-// `counts` has for each hash how many held pages have it; `hints` a frame where a page of that hash was put last, which is only a guess.
 #![tactic(auto)]
 
-ghost use Rattle.std.specs.Prelude.{◌≡◌, ◌⊎◌, ◌∷◌, [], ◌++◌, ◌+◌, ◌≤◌, ◌<◌, take, set};
+ghost use Rattle.std.specs.Prelude.{◌≡◌, ◌⊎◌, ◌∷◌, [], ◌++◌, ◌≤◌, ◌<◌, ℕ, List, length, take, set, None, Some};
 ghost use Rattle.paging.specs.Calls.{frame_limit};
 ghost use Rattle.paging.specs.Held.{found};
-ghost use Rattle.paging.specs.declared.Found.TheVariants.{At, Absent};
-ghost use Rattle.held.specs.Index.{hashes, hash_of, Indexed};
-ghost use Rattle.held.specs.Placing.{put_outcome, put_pages, put_count};
+ghost use Rattle.held.specs.Index.{hashes, hash_of, counts_of, Indexed};
+ghost use Rattle.held.specs.Placing.{put_outcome, put_pages};
 
-use paging::{Found, Frame, Outcome, Page};
+use paging::{Frame, Outcome, Page};
+use std::marker::Model;
 
-// How many pages there is room for, and how many hashes there are.
+// How many pages there is room for, in the type of an array's length, and how many hashes there are.
 pub const FRAMES: usize = calls::FRAMES as usize;
 
 pub const HASHES: usize = 2048;
 
+// Of a hash: how many held pages have it, and a frame where a page of it was put last, which is only a guess. Side by side, as a search reads both: 4 bytes and not 3.
+#[derive(Clone, Copy)]
+pub struct Bucket {
+    pub count: u16,
+    pub hint: u8,
+}
+
+// `pages` has the page of each frame, of which the first `count` are in use; `buckets` has one for each hash. Arrays, since the walks have no heap.
+// Public, so that whoever has such arrays in order can make one of them: the literal asks for the invariant.
+#[derive(Drop)]
+pub struct Held {
+    pub pages: [u32; FRAMES],
+    pub count: usize,
+    pub buckets: [Bucket; HASHES],
+}
+
+impl Model for Held {
+    ghost Value = { List ℕ };
+
+    ghost view = { λ h. take h.count h.pages };
+
+    ghost invariant = { λ h. Indexed h.count h.pages (counts_of h.buckets) };
+}
+
 // The top eleven bits of a product of 32 bits: pages that stand close together get hashes far apart.
+#[tactic(auto, unfolding(crate::specs::Index::hash_of), using(crate::proofs::Counting::hash_below))]
 fn hash(page: u32) -> usize
     ensures { (result ≡ hash_of page) × (result < hashes) }
 {
     (page as u64 * 2654435761 % 4294967296 / 2097152) as usize
 }
 
-// The frame that holds the page, or absent. Pages are looked through one by one only where the count and the hint don't settle it.
-pub fn find(page: Page, held: usize, pages: &[u32], counts: &[u16], hints: &[u8]) -> Found
-    requires { Indexed held pages.now counts.now hints.now }
-    ensures { result ≡ found page.0 (take held pages.now) }
-{
-    let h = hash(page.0);
-    let count = counts[h];
-    if count == 0 {
-        return Found::Absent;
-    }
-    let hint = hints[h] as usize;
-    if hint < held {
-        let there = pages[hint];
-        if there == page.0 {
-            return Found::At(Frame(hint as u32));
+impl Held {
+    // Nothing held.
+    #[tactic(auto, using(crate::proofs::Keeping::index_starts, crate::proofs::Buckets::buckets_start))]
+    pub fn new() -> Held
+        ensures { result ≡ [] }
+    {
+        Held {
+            pages: [0; FRAMES],
+            count: 0,
+            buckets: [Bucket { count: 0, hint: 0 }; HASHES],
         }
-        if count == 1 {
-            if hash(there) == h {
-                return Found::Absent;
+    }
+
+    // How many pages are held.
+    pub fn len(&self) -> usize
+        ensures pages { result ≡ length self.now }
+        ensures few { result ≤ frame_limit }
+    {
+        self.count
+    }
+
+    // The pages held, in frame order; numbers and no `Page`, as they are lent to MIN and to `place_of` as words.
+    pub fn pages(&self) -> &[u32]
+        ensures { result.now ≡ self.now }
+    {
+        &self.pages[..self.count]
+    }
+
+    // The frame that holds the page, or none. Pages are looked through one by one only where the count and the hint don't settle it.
+    #[tactic(auto, using(crate::proofs::Keeping::absent_zero, crate::proofs::Keeping::absent_one, crate::proofs::Keeping::found_hinted, crate::proofs::Keeping::found_searched, crate::proofs::Keeping::absent_searched, crate::proofs::Buckets::count_at))]
+    pub fn find(&self, page: Page) -> Option<Frame>
+        ensures { result ≡ found page.0 self.now }
+    {
+        let h = hash(page.0);
+        // Field by field: a whole bucket read right after one of its fields was written has to wait for that.
+        let count = self.buckets[h].count;
+        if count == 0 {
+            return None;
+        }
+        let hint = self.buckets[h].hint as usize;
+        if hint < self.count {
+            let there = self.pages[hint];
+            if there == page.0 {
+                return Some(Frame(hint as u32));
+            }
+            if count == 1 && hash(there) == h {
+                return None;
             }
         }
+        // By place_of, the one search: its laws are proved once.
+        let at = calls::place_of(page.0, &self.pages[..self.count]);
+        if at < self.count {
+            return Some(Frame(at as u32));
+        }
+        None
     }
-    let at = calls::place_of(page.0, &pages[..held]);
-    if at < held {
-        return Found::At(Frame(at as u32));
-    }
-    Found::Absent
-}
 
-// A page into the next free frame.
-pub fn load(page: Page, held: usize, pages: &mut [u32], counts: &mut [u16], hints: &mut [u8])
-    requires { (Indexed held pages.old counts.old hints.old) × (held < frame_limit) × (found page.0 (take held pages.old) ≡ Absent) }
-    ensures index { Indexed (held + 1) pages.new counts.new hints.new }
-    ensures pages { take (held + 1) pages.new ≡ take held pages.old ++ (page.0 ∷ []) }
-{
-    let h = hash(page.0);
-    counts[h] = counts[h] + 1;
-    hints[h] = held as u8;
-    pages[held] = page.0;
-}
-
-// A page in place of the one in a frame.
-pub fn replace(
-    page: Page,
-    frame: Frame,
-    held: usize,
-    pages: &mut [u32],
-    counts: &mut [u16],
-    hints: &mut [u8],
-)
-    requires { (Indexed held pages.old counts.old hints.old) × (frame.0 < held) × (found page.0 (take held pages.old) ≡ Absent) }
-    ensures index { Indexed held pages.new counts.new hints.new }
-    ensures pages { take held pages.new ≡ set (take held pages.old) frame.0 page.0 }
-{
-    let at = frame.0 as usize;
-    let old = pages[at];
-    let goes = hash(old);
-    counts[goes] = counts[goes] - 1;
-    let comes = hash(page.0);
-    counts[comes] = counts[comes] + 1;
-    hints[comes] = frame.0 as u8;
-    pages[at] = page.0;
-}
-
-// A page put into the frame that is chosen for it: a hit, if it stands there already; loaded, if the frame is the next free one; else in place of the page there.
-pub fn put(
-    page: Page,
-    frame: Frame,
-    held: usize,
-    pages: &mut [u32],
-    counts: &mut [u16],
-    hints: &mut [u8],
-) -> Outcome
-    requires { (Indexed held pages.old counts.old hints.old) × (frame.0 ≤ held) × (frame.0 < frame_limit) × ((found page.0 (take held pages.old) ≡ At frame) ⊎ (found page.0 (take held pages.old) ≡ Absent)) }
-    ensures told { result ≡ put_outcome page.0 frame.0 (take held pages.old) }
-    ensures index { Indexed (put_count frame.0 held) pages.new counts.new hints.new }
-    ensures pages { take (put_count frame.0 held) pages.new ≡ put_pages page.0 frame.0 (take held pages.old) }
-{
-    let at = frame.0 as usize;
-    if held <= at {
-        load(page, held, pages, counts, hints);
-        return Outcome::Loaded;
+    // A page into the next free frame.
+    pub fn load(&mut self, page: Page)
+        requires { (length self.old < frame_limit) × (found page.0 self.old ≡ None) }
+        ensures { self.new ≡ self.old ++ (page.0 ∷ []) }
+    {
+        let held = self.count;
+        let h = hash(page.0);
+        self.buckets[h] = Bucket {
+            count: self.buckets[h].count + 1,
+            hint: held as u8,
+        };
+        self.pages[held] = page.0;
+        self.count += 1;
     }
-    let old = pages[at];
-    if old == page.0 {
-        return Outcome::Hit;
+
+    // A page in place of the one in a frame.
+    pub fn replace(&mut self, page: Page, frame: Frame)
+        requires { (frame.0 < length self.old) × (found page.0 self.old ≡ None) }
+        ensures { self.new ≡ set self.old frame.0 page.0 }
+    {
+        let at = frame.0 as usize;
+        let goes = hash(self.pages[at]);
+        self.buckets[goes].count -= 1;
+        let comes = hash(page.0);
+        self.buckets[comes] = Bucket {
+            count: self.buckets[comes].count + 1,
+            hint: frame.0 as u8,
+        };
+        self.pages[at] = page.0;
     }
-    replace(page, frame, held, pages, counts, hints);
-    Outcome::Dropped(Page(old))
+
+    // A page put into the frame that is chosen for it: a hit, if it stands there already; loaded, if the frame is the next free one; else in place of the page there.
+    pub fn put(&mut self, page: Page, frame: Frame) -> Outcome
+        requires { (frame.0 ≤ length self.old) × (frame.0 < frame_limit) × ((found page.0 self.old ≡ Some frame) ⊎ (found page.0 self.old ≡ None)) }
+        ensures told { result ≡ put_outcome page.0 frame.0 self.old }
+        ensures pages { self.new ≡ put_pages page.0 frame.0 self.old }
+    {
+        let at = frame.0 as usize;
+        if self.count <= at {
+            self.load(page);
+            return Outcome::Loaded;
+        }
+        let old = self.pages[at];
+        if old == page.0 {
+            return Outcome::Hit;
+        }
+        self.replace(page, frame);
+        Outcome::Dropped(Page(old))
+    }
 }

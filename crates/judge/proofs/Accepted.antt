@@ -2,6 +2,7 @@
 --
 -- In order: the tests before the entries; accepted and refused; only the first T words are read; a rule's own plan.
 -- Assumes nothing.
+use Rattle.std.specs.Prelude.{Ok, Err}
 use mathlib.Core.Path.{◌≡◌, refl, sym, ap, ◌∙◌}
 use mathlib.Core.Logic.{◌↔◌}
 use mathlib.Core.Bool.{false}
@@ -17,10 +18,7 @@ use Rattle.paging.specs.Plans.{judged, after, absent, through, check_from, check
 use Rattle.paging.specs.Walk.{faults, plan}
 use Rattle.paging.specs.Calls.{gate, trace_tests, lent_tests}
 use Rattle.paging.specs.declared.Rule.{Rule}
-use Rattle.paging.specs.declared.Gate.{Gate}
-use Rattle.paging.specs.declared.Gate.TheVariants.{Open, No}
-use Rattle.paging.specs.declared.Answer.{Answer}
-use Rattle.paging.specs.declared.Answer.TheVariants.{Faults, Refused}
+use Rattle.paging.specs.Refusals.{Gate, Answer}
 use Rattle.paging.specs.declared.Refusal.{Refusal}
 use Rattle.paging.specs.declared.Refusal.TheVariants.{PlanBroken}
 use Rattle.paging.proofs.Own.{own_plan_accepted}
@@ -33,13 +31,13 @@ use Rattle.plans.specs.Check.{check_of}
 -- ---- the tests before the entries
 
 -- an answer with faults went through an open gate
-through_faults : (g : Gate) (answer : Answer) (f : ℕ) → through g answer ≡ Faults f → (g ≡ Open) × (answer ≡ Faults f)
-through_faults Open answer f e = (refl, e)
-through_faults (No refusal) answer f e = absurd (let k : ◌≡◌ {A = ℕ} 0 1 = cc in omega arith)
+through_faults : (g : Gate) (answer : Answer) (f : ℕ) → through g answer ≡ Ok f → (g ≡ Ok tt) × (answer ≡ Ok f)
+through_faults (Ok tt) answer f e = (refl, e)
+through_faults (Err refusal) answer f e = absurd (let k : ◌≡◌ {A = ℕ} 0 1 = cc in omega arith)
 
 module _ (m : ℕ) (trace words : List ℕ) where
   -- refusals 2, 3, 4 and 6 are given exactly when a size or a page is not in order or the words are too few
-  pub open_exactly : (gate (trace_tests m trace ++ lent_tests trace words) ≡ Open) ↔ (InOrder m trace × (length trace ≤ length words))
+  pub open_exactly : (gate (trace_tests m trace ++ lent_tests trace words) ≡ Ok tt) ↔ (InOrder m trace × (length trace ≤ length words))
   open_exactly = (
     (λ e. let (o, l) = (lent_open (trace_tests m trace) trace words).0 e in ((trace_open m trace).0 o, l)),
     λ o. (lent_open (trace_tests m trace) trace words).1 ((trace_open m trace).1 o.0, o.1),
@@ -50,7 +48,7 @@ module _ (m : ℕ) (trace words : List ℕ) where
   unfolding check_of
   check_decides o l = rw (open_exactly.1 (o, l))
 
-  pub accepted_open : (f : ℕ) → check_of m trace words ≡ Faults f → InOrder m trace × (length trace ≤ length words) × (check m trace words ≡ Faults f)
+  pub accepted_open : (f : ℕ) → check_of m trace words ≡ Ok f → InOrder m trace × (length trace ≤ length words) × (check m trace words ≡ Ok f)
   unfolding check_of
   accepted_open f e =
       let (o, a) = through_faults (gate (trace_tests m trace ++ lent_tests trace words)) (check m trace words) f e in
@@ -58,24 +56,24 @@ module _ (m : ℕ) (trace words : List ℕ) where
 
   -- ---- ACCEPTED EXACTLY WHEN EVERY ENTRY KEEPS THE PLAN RULE
 
-  pub accepted : ((f : ℕ) × (check_of m trace words ≡ Faults f))
+  pub accepted : ((f : ℕ) × (check_of m trace words ≡ Ok f))
       ↔ (InOrder m trace × (length trace ≤ length words) × ((t : ℕ) → t < length trace → KeepsAt m trace words t))
   accepted = (there, back)
     where
-      there : (f : ℕ) × (check_of m trace words ≡ Faults f)
+      there : (f : ℕ) × (check_of m trace words ≡ Ok f)
           → InOrder m trace × (length trace ≤ length words) × ((t : ℕ) → t < length trace → KeepsAt m trace words t)
       there (f, e) = let (i, l, a) = accepted_open f e in (i, l, (accepted_exactly m trace words l).0 (f, a))
 
       back : InOrder m trace × (length trace ≤ length words) × ((t : ℕ) → t < length trace → KeepsAt m trace words t)
-          → (f : ℕ) × (check_of m trace words ≡ Faults f)
+          → (f : ℕ) × (check_of m trace words ≡ Ok f)
       back (i, l, keep) = let (f, a) = (accepted_exactly m trace words l).1 keep in (f, check_decides i l ∙ a)
 
   -- and then the count is the number of requests that found their page absent
-  pub accepted_faults : (f : ℕ) → check_of m trace words ≡ Faults f → f ≡ absences m trace words 0 (length trace)
+  pub accepted_faults : (f : ℕ) → check_of m trace words ≡ Ok f → f ≡ absences m trace words 0 (length trace)
   accepted_faults f e = let (i, l, a) = accepted_open f e in accepted_count m trace words l f a
 
   -- a call that is in order is refused at the first entry that breaks the rule
-  pub refused_where : InOrder m trace → length trace ≤ length words → (r : Refusal) → check_of m trace words ≡ Refused r
+  pub refused_where : InOrder m trace → length trace ≤ length words → (r : Refusal) → check_of m trace words ≡ Err r
       → (s : ℕ) × (r ≡ PlanBroken s) × (s < length trace) × (KeepsAt m trace words s → ⊥) × ((t : ℕ) → t < s → KeepsAt m trace words t)
   refused_where o l r e = refused_first m trace words l r (sym (check_decides o l) ∙ e)
 
@@ -102,6 +100,6 @@ front_decides m trace words = elim (dec_le (length trace) (length words)) [
 
 -- ---- DEMAND 2, its last sentence, of the service: each rule's own plan is accepted with the rule's count
 
-pub own_plan_passes : (rule : Rule) (n : ℕ) (trace : List ℕ) → InOrder n trace → check_of n trace (plan rule n trace) ≡ Faults (faults rule n trace)
+pub own_plan_passes : (rule : Rule) (n : ℕ) (trace : List ℕ) → InOrder n trace → check_of n trace (plan rule n trace) ≡ Ok (faults rule n trace)
 own_plan_passes rule n trace o =
     check_decides n trace (plan rule n trace) o (omega (arith, plan_length rule n trace)) ∙ own_plan_accepted rule n trace o.one_frame

@@ -11,12 +11,6 @@ ghost use Rattle.paging.specs.Services.{laid};
 pub fn lay(numbers: &[u32], words: &mut [u32])
     ensures { words.new ≡ laid numbers.now words.old }
 {
-    let mut i = 0;
-    while i < numbers.len() {
-        if words.len() <= i {
-            return;
-        }
-        words[i] = numbers[i];
-        i += 1;
-    }
+    let n = numbers.len().min(words.len());
+    words[..n].copy_from_slice(&numbers[..n]);
 }

@@ -16,19 +16,12 @@ use Rattle.paging.specs.declared.Entry.{Entry}
 use Rattle.paging.specs.declared.Rule.TheVariants.{Lru}
 use Rattle.paging.specs.declared.Outcome.{Outcome}
 use Rattle.paging.proofs.Choice.{least_index}
+use Rattle.paging.specs.declared.Frame.{Frame}
 use Rattle.walks.specs.Hands.{stops, first_from}
-use Rattle.walks.specs.Tied.{Tied}
-use Rattle.walks.proofs.Hands.{Stopped, stopped, Hand, hand_moves, hand_stops, hand_least, hand_served, below_served}
-use Rattle.walks.proofs.Walking.{Served, size}
-
--- just before moment t: each frame's last moment, and the frame of each moment served
-pub record Lasts (t hand : ℕ) (es : List Entry) (last served : List ℕ) : Type 0 where
-  pub frames : length last ≡ frame_limit
-  pub moments : length served ≡ request_limit
-  pub lasts : (f : ℕ) → f < length es → get_or last f 0 ≡ (entry_at es f).last.0
-  pub bytes : (k : ℕ) → k < request_limit → get_or served k 0 < frame_limit
-  pub used : (k : ℕ) → k < t → get_or served k 0 < length es
-  pub over : Hand t hand (length es) last last served
+use Rattle.walks.specs.Tied.{held_before, choice_at, seat_at, told_at, Within}
+use Rattle.walks.proofs.Hands.{Stopped, stopped, hand_moves, hand_stops, hand_least, hand_served, below_served}
+use Rattle.walks.proofs.Walking.{Served, size, seat_low, seat_serves}
+use Rattle.lru1.specs.Lasts.{Lasts}
 
 pub lasts_start : Lasts 0 0 [] (replicate frame_limit 0) (replicate request_limit 0)
 lasts_start =
@@ -106,9 +99,40 @@ lasts_step t hand es last served x early p o f es' s small =
     now : (entry_at es' f).last.0 ≡ t
     now = ⊎_elim (λ w. ap (λ (d : Entry). d.last.0) w.2) (λ w. ap (λ (d : Entry). d.last.0) w.1) s.own
 
--- in a full cache the walk knows which page goes
-pub lasts_know : (n : ℕ) (trace : List ℕ) (t held hand : ℕ) (words counts hints last served : List ℕ)
-    → Tied Lru n trace t held words counts hints → Lasts t hand (entries_at Lru n trace t) last served → 1 ≤ n → (at : ℕ) → Stopped hand t at last last served
-    → n ≤ held → get_or served at 0 ≡ chosen Lru (sees_at trace t) (entries_at Lru n trace t)
-lasts_know n trace t held hand words counts hints last served x l some at s full =
-    hand_chosen t hand (entries_at Lru n trace t) last served l at s (sees_at trace t) (omega (arith, size Lru n trace t held words counts hints x))
+-- in a full cache the policy knows which page goes
+pub lasts_know : (n : ℕ) (trace : List ℕ) (t hand : ℕ) (held last served : List ℕ)
+    → held ≡ held_before Lru n trace t → Lasts t hand (entries_at Lru n trace t) last served → 1 ≤ n → (at : ℕ) → Stopped hand t at last last served
+    → n ≤ length held → get_or served at 0 ≡ choice_at Lru n trace t
+unfolding choice_at
+lasts_know n trace t hand held last served same l some at s full =
+    let k : length held ≡ length (held_before Lru n trace t) = ap length same in
+    hand_chosen t hand (entries_at Lru n trace t) last served l at s (sees_at trace t) (omega (arith, full, k, size Lru n trace t, some))
+
+-- ---- at a moment of the walk
+
+module _ (n : ℕ) (trace : List ℕ) (t hand : ℕ) (last served : List ℕ) (l : Lasts t hand (entries_at Lru n trace t) last served) (x : Within n trace t) where
+  soon : t < request_limit
+  soon = omega (arith, x.inside, x.requests)
+
+  stop : (at : ℕ) → at ≡ first_from (stops last last served) hand (t - hand) → Stopped hand t at last last served
+  stop at e = lasts_stop t hand (entries_at Lru n trace t) last served l soon at e
+
+  -- the hand stops at a moment of the trace
+  pub lasts_inside : (at : ℕ) → at ≡ first_from (stops last last served) hand (t - hand) → at < request_limit
+  lasts_inside at e = omega (arith, (stop at e).inside, soon)
+
+  pub lasts_goes : (held : List ℕ) → held ≡ held_before Lru n trace t → n ≤ length held
+      → (at : ℕ) → at ≡ first_from (stops last last served) hand (t - hand) → get_or served at 0 ≡ choice_at Lru n trace t
+  lasts_goes held same full at e = lasts_know n trace t hand held last served same l x.some at (stop at e) full
+
+  pub lasts_moved : (at : ℕ) → at ≡ first_from (stops last last served) hand (t - hand) → Lasts t at (entries_at Lru n trace t) last served
+  lasts_moved at e = lasts_move t hand (entries_at Lru n trace t) last served l at (stop at e)
+
+  -- and a request keeps it so
+  module _ (frame : Frame) (is : frame.0 ≡ seat_at Lru n trace t) where
+    pub lasts_low : frame.0 < frame_limit
+    lasts_low = omega (arith, seat_low Lru n trace t x.some frame is, x.frames)
+
+    pub lasts_keep : Lasts (t + 1) hand (entries_at Lru n trace (t + 1)) (set last frame.0 t) (set served t frame.0)
+    lasts_keep =
+        lasts_step t hand (entries_at Lru n trace t) last served l soon _ (told_at Lru n trace t) frame.0 _ (seat_serves Lru n trace t x.some frame is) lasts_low

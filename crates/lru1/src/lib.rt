@@ -1,61 +1,54 @@
 // LRU over a whole trace: its count and its plan. A hand goes over the moments and stops at the first that is still the last request of the page
 // in the frame served then: that page's last request is earliest. The hand only goes on: over a whole trace it looks at no more than two moments for each request.
-//
-// A walk owns the held pages with their index (crate `held`), the last moment of each frame and the frame served at each moment, and lends them as slices.
 #![tactic(auto)]
 
-ghost use Rattle.std.specs.Prelude.{◌≡◌, ◌≤◌, length};
-ghost use Rattle.paging.specs.Walk.{faults, plan};
-ghost use Rattle.paging.specs.Calls.{frame_limit, request_limit, trace_tests};
-ghost use Rattle.paging.specs.Services.{answered, laid, written};
+ghost use Rattle.std.specs.Prelude.{◌≡◌};
+ghost use Rattle.paging.specs.Calls.{trace_tests};
+ghost use Rattle.paging.specs.Services.{answered, written};
+ghost use Rattle.paging.specs.Walk.{entries_at};
 ghost use Rattle.paging.specs.declared.Rule.TheVariants.{Lru};
+ghost use Rattle.lru1.specs.Lasts.{Lasts};
 
-use paging::{Answer, Frame, Gate, Page};
+use held::Held;
+use paging::{Frame, Outcome, Refusal};
+use walks::Policy;
 
-// Walks a trace from empty: its faults, and as much of its plan as there are lent words for. With no words it only counts.
-fn walked(n: u32, trace: &[u32], words: &mut [u32]) -> u32
-    requires { (1 ≤ n) × (n ≤ frame_limit) × (length trace.now ≤ request_limit) }
-    ensures { (result ≡ faults Lru n trace.now) × (words.new ≡ laid (plan Lru n trace.now) words.old) }
-{
-    let mut pages = [0u32; held::FRAMES];
-    let mut counts = [0u16; held::HASHES];
-    let mut hints = [0u8; held::HASHES];
-    let mut last = [0u16; held::FRAMES];
-    let mut served = [0u8; calls::REQUESTS];
-    let mut held: usize = 0;
-    let mut hand: usize = 0;
-    let mut faults: u32 = 0;
-    let mut i: usize = 0;
-    while i < trace.len() {
-        let page = Page(trace[i]);
-        hand = walks::onward(hand, i, &served, &last, &last);
-        let goes = Frame(served[hand] as u32);
-        let seat = walks::serve(
-            n as usize,
-            page,
-            goes,
-            i,
-            held,
-            &mut pages,
-            &mut counts,
-            &mut hints,
-            words,
-        );
-        last[seat.frame.0 as usize] = i as u16;
-        served[i] = seat.frame.0 as u8;
-        held = seat.held;
-        faults += seat.fault;
-        i += 1;
+// The hand, the last moment of each frame, and the frame served at each moment.
+#[derive(Drop)]
+pub struct LruPolicy {
+    hand: usize,
+    last: [u16; held::FRAMES],
+    served: [u8; calls::REQUESTS],
+}
+
+impl Policy for LruPolicy {
+    ghost rule = { Lru };
+
+    ghost Keeps = { λ policy n trace t. Lasts t policy.hand (entries_at Lru n trace t) policy.last policy.served };
+
+    fn start() -> LruPolicy {
+        LruPolicy {
+            hand: 0,
+            last: [0; held::FRAMES],
+            served: [0; calls::REQUESTS],
+        }
     }
-    faults
+
+    fn goes(&mut self, _n: usize, _trace: &[u32], t: usize, _held: &Held) -> Frame {
+        self.hand = walks::onward(self.hand, t, &self.served, &self.last, &self.last);
+        Frame(self.served[self.hand] as u32)
+    }
+
+    fn served(&mut self, _n: usize, _trace: &[u32], t: usize, frame: Frame, _outcome: Outcome) {
+        self.last[frame.0 as usize] = t as u16;
+        self.served[t] = frame.0 as u8;
+    }
 }
 
 // LRU's faults of a trace, or refusal 2, 3 or 4; as much of its plan as there are lent words for goes into them. A refusal keeps all words.
-pub fn run(n: u32, trace: &[u32], words: &mut [u32]) -> Answer
+// A line for each rule: its promise names the rule.
+pub fn run(n: u32, trace: &[u32], words: &mut [u32]) -> Result<u32, Refusal>
     ensures { (result ≡ answered (trace_tests n trace.now) Lru n trace.now) × (words.new ≡ written (trace_tests n trace.now) Lru n trace.now words.old) }
 {
-    match calls::trace_gate(n, trace) {
-        Gate::No(refusal) => Answer::Refused(refusal),
-        Gate::Open => Answer::Faults(walked(n, trace, words)),
-    }
+    walks::run::<LruPolicy>(n, trace, words)
 }

@@ -23,24 +23,13 @@ use Rattle.paging.specs.declared.Outcome.{Outcome}
 use Rattle.paging.specs.declared.Outcome.TheVariants.{Hit}
 use Rattle.paging.proofs.Lists.{true≢false, bool_cases, at_any, at_none, index_same}
 use Rattle.paging.proofs.Choice.{least_index}
+use Rattle.paging.specs.declared.Frame.{Frame}
 use Rattle.walks.specs.Hands.{stops, first_from}
-use Rattle.walks.specs.Tied.{Tied}
-use Rattle.walks.proofs.Hands.{Stopped, stopped, Hand, hand_moves, hand_stops, hand_least, hand_served, below_served}
-use Rattle.walks.proofs.Walking.{Served, size}
+use Rattle.walks.specs.Tied.{held_before, choice_at, seat_at, told_at, Within}
+use Rattle.walks.proofs.Hands.{Stopped, stopped, hand_moves, hand_stops, hand_least, hand_served, below_served}
+use Rattle.walks.proofs.Walking.{Served, size, seat_low, seat_serves}
+use Rattle.lru2.specs.Twice.{Twice}
 use Rattle.lru2.specs.Devices.{hand_of, earlier_for}
-
--- just before moment t: each frame's last moment and the one before it, which is the last again for a page requested once; the frame of each moment served
-pub record Twice (t first second : ℕ) (es : List Entry) (last earlier served : List ℕ) : Type 0 where
-  pub frames : length last ≡ frame_limit
-  pub pasts : length earlier ≡ frame_limit
-  pub moments : length served ≡ request_limit
-  pub lasts : (f : ℕ) → f < length es → get_or last f 0 ≡ (entry_at es f).last.0
-  pub only : (f : ℕ) → f < length es → once (entry_at es f) ≡ true → get_or last f 0 ≡ get_or earlier f 0
-  pub again : (f : ℕ) → f < length es → once (entry_at es f) ≡ false → (get_or earlier f 0 ≡ (entry_at es f).earlier.0) × (get_or earlier f 0 < get_or last f 0)
-  pub bytes : (k : ℕ) → k < request_limit → get_or served k 0 < frame_limit
-  pub used : (k : ℕ) → k < t → get_or served k 0 < length es
-  pub over_last : Hand t first (length es) last earlier served
-  pub over_earlier : Hand t second (length es) earlier earlier served
 
 pub twice_starts : Twice 0 0 0 [] (replicate frame_limit 0) (replicate frame_limit 0) (replicate request_limit 0)
 twice_starts =
@@ -259,11 +248,55 @@ module _
             (omega (arith, x.over_earlier.onward))
             (ap (λ (d : Entry). d.last.0) is)
 
--- in a full cache the walk knows which page goes
-pub twice_knows : (n : ℕ) (trace : List ℕ) (t held first second : ℕ) (words counts hints last earlier served : List ℕ)
-    → Tied Lru2 n trace t held words counts hints → Twice t first second (entries_at Lru2 n trace t) last earlier served → 1 ≤ n
+-- in a full cache the policy knows which page goes
+pub twice_knows : (n : ℕ) (trace : List ℕ) (t first second : ℕ) (held last earlier served : List ℕ)
+    → held ≡ held_before Lru2 n trace t → Twice t first second (entries_at Lru2 n trace t) last earlier served → 1 ≤ n
     → (at : ℕ) → Stopped first t at last earlier served → (at₂ : ℕ) → Stopped second t at₂ earlier earlier served → (hand : ℕ) → hand ≡ hand_of at at₂ t
-    → n ≤ held → get_or served hand 0 ≡ chosen Lru2 (sees_at trace t) (entries_at Lru2 n trace t)
-twice_knows n trace t held first second words counts hints last earlier served x w some at s at₂ s₂ hand is full =
+    → n ≤ length held → get_or served hand 0 ≡ choice_at Lru2 n trace t
+unfolding choice_at
+twice_knows n trace t first second held last earlier served same w some at s at₂ s₂ hand is full =
+    let k : length held ≡ length (held_before Lru2 n trace t) = ap length same in
     hand_chosen t first second (entries_at Lru2 n trace t) last earlier served w at s at₂ s₂ hand is (sees_at trace t)
-    (omega (arith, size Lru2 n trace t held words counts hints x))
+    (omega (arith, full, k, size Lru2 n trace t, some))
+
+-- ---- at a moment of the walk
+
+module _
+    (n : ℕ) (trace : List ℕ) (t first second : ℕ) (last earlier served : List ℕ)
+    (w : Twice t first second (entries_at Lru2 n trace t) last earlier served) (x : Within n trace t)
+  where
+    soon_lem : t < request_limit
+    soon_lem = omega (arith, x.inside, x.requests)
+
+    -- the hands stop at moments of the trace
+    module _
+        (at : ℕ) (e : at ≡ first_from (stops last earlier served) first (t - first))
+        (at₂ : ℕ) (e₂ : at₂ ≡ first_from (stops earlier earlier served) second (t - second))
+      where
+        stop : Stopped first t at last earlier served
+        stop = twice_stops t first second (entries_at Lru2 n trace t) last earlier served w soon_lem at e
+
+        stop₂ : Stopped second t at₂ earlier earlier served
+        stop₂ = twice_stops₂ t first second (entries_at Lru2 n trace t) last earlier served w soon_lem at₂ e₂
+
+        pub twice_inside : (hand : ℕ) → hand ≡ hand_of at at₂ t → hand < request_limit
+        twice_inside hand is = omega (arith, hand_inside at at₂ t stop₂.inside hand is, soon_lem)
+
+        pub twice_goes : (held : List ℕ) → held ≡ held_before Lru2 n trace t → n ≤ length held → (hand : ℕ) → hand ≡ hand_of at at₂ t
+            → get_or served hand 0 ≡ choice_at Lru2 n trace t
+        twice_goes held same full hand is =
+            twice_knows n trace t first second held last earlier served same w x.some at stop at₂ stop₂ hand is full
+
+        pub twice_moved : Twice t at at₂ (entries_at Lru2 n trace t) last earlier served
+        twice_moved = twice_moves t first second (entries_at Lru2 n trace t) last earlier served w at stop at₂ stop₂
+
+    -- and a request keeps it so
+    module _ (frame : Frame) (is : frame.0 ≡ seat_at Lru2 n trace t) where
+      pub twice_low : frame.0 < frame_limit
+      twice_low = omega (arith, seat_low Lru2 n trace t x.some frame is, x.frames)
+
+      pub twice_keeps : (o : Outcome) → o ≡ told_at Lru2 n trace t → (m : ℕ) → m ≡ earlier_for (fault_of o) (get_or last frame.0 0) t
+          → Twice (t + 1) first second (entries_at Lru2 n trace (t + 1)) (set last frame.0 t) (set earlier frame.0 m) (set served t frame.0)
+      twice_keeps o told m e =
+          twice_steps t first second (entries_at Lru2 n trace t) last earlier served w soon_lem _ (told_at Lru2 n trace t) frame.0 _
+          (seat_serves Lru2 n trace t x.some frame is) twice_low (fault_of o) (ap fault_of told) m e

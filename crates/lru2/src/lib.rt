@@ -1,19 +1,19 @@
 // LRU-2 over a whole trace: its count and its plan. Two hands go over the moments and only go on. The first stops at the first moment that is still the only
 // request, since it was loaded, of the page in the frame served then; the second at the first that is still a page's second to last request, or its only one.
 // While some page has been requested only once, the first hand's page goes; else the second's.
-//
-// A walk owns the held pages with their index (crate `held`), of each frame the last moment and the one before it, which is the last again where there is only one,
-// and the frame served at each moment; it lends them as slices.
 #![tactic(auto)]
 
-ghost use Rattle.std.specs.Prelude.{◌≡◌, ◌≤◌, length};
-ghost use Rattle.paging.specs.Walk.{faults, plan};
-ghost use Rattle.paging.specs.Calls.{frame_limit, request_limit, trace_tests};
-ghost use Rattle.paging.specs.Services.{answered, laid, written};
+ghost use Rattle.std.specs.Prelude.{◌≡◌};
+ghost use Rattle.paging.specs.Calls.{trace_tests};
+ghost use Rattle.paging.specs.Services.{answered, written};
+ghost use Rattle.paging.specs.Walk.{fault_of, entries_at};
 ghost use Rattle.paging.specs.declared.Rule.TheVariants.{Lru2};
 ghost use Rattle.lru2.specs.Devices.{hand_of, earlier_for};
+ghost use Rattle.lru2.specs.Twice.{Twice};
 
-use paging::{Answer, Frame, Gate, Page};
+use held::Held;
+use paging::{Frame, Outcome, Refusal};
+use walks::Policy;
 
 // The hand whose page goes: the first, where it stopped before `end`; else the second.
 fn hand_of(first: usize, second: usize, end: usize) -> usize
@@ -26,62 +26,59 @@ fn hand_of(first: usize, second: usize, end: usize) -> usize
 }
 
 // The moment before a page's last, which is now: on a hit what was its last; where it is loaded there is none, and it is now again.
-fn earlier_for(fault: u32, last: u16, now: u16) -> u16
-    ensures { result ≡ earlier_for fault last now }
+fn earlier_for(outcome: Outcome, last: u16, now: u16) -> u16
+    ensures { result ≡ earlier_for (fault_of outcome) last now }
 {
-    if fault == 0 {
+    if outcome == Outcome::Hit {
         return last;
     }
     now
 }
 
-// Walks a trace from empty: its faults, and as much of its plan as there are lent words for. With no words it only counts.
-fn walked(n: u32, trace: &[u32], words: &mut [u32]) -> u32
-    requires { (1 ≤ n) × (n ≤ frame_limit) × (length trace.now ≤ request_limit) }
-    ensures { (result ≡ faults Lru2 n trace.now) × (words.new ≡ laid (plan Lru2 n trace.now) words.old) }
-{
-    let mut pages = [0u32; held::FRAMES];
-    let mut counts = [0u16; held::HASHES];
-    let mut hints = [0u8; held::HASHES];
-    let mut last = [0u16; held::FRAMES];
-    let mut earlier = [0u16; held::FRAMES];
-    let mut served = [0u8; calls::REQUESTS];
-    let mut held: usize = 0;
-    let mut first: usize = 0;
-    let mut second: usize = 0;
-    let mut faults: u32 = 0;
-    let mut i: usize = 0;
-    while i < trace.len() {
-        first = walks::onward(first, i, &served, &last, &earlier);
-        second = walks::onward(second, i, &served, &earlier, &earlier);
-        let seat = walks::serve(
-            n as usize,
-            Page(trace[i]),
-            Frame(served[hand_of(first, second, i)] as u32),
-            i,
-            held,
-            &mut pages,
-            &mut counts,
-            &mut hints,
-            words,
-        );
-        let at = seat.frame.0 as usize;
-        earlier[at] = earlier_for(seat.fault, last[at], i as u16);
-        last[at] = i as u16;
-        served[i] = at as u8;
-        held = seat.held;
-        faults += seat.fault;
-        i += 1;
+// The two hands; of each frame the last moment and the one before it, which is the last again where there is only one, so that no mark is needed among 16 bits: two lists, as a hand goes by either or by both;
+// and the frame served at each moment.
+#[derive(Drop)]
+pub struct Lru2Policy {
+    first: usize,
+    second: usize,
+    last: [u16; held::FRAMES],
+    earlier: [u16; held::FRAMES],
+    served: [u8; calls::REQUESTS],
+}
+
+impl Policy for Lru2Policy {
+    ghost rule = { Lru2 };
+
+    ghost Keeps = { λ policy n trace t. Twice t policy.first policy.second (entries_at Lru2 n trace t) policy.last policy.earlier policy.served };
+
+    fn start() -> Lru2Policy {
+        Lru2Policy {
+            first: 0,
+            second: 0,
+            last: [0; held::FRAMES],
+            earlier: [0; held::FRAMES],
+            served: [0; calls::REQUESTS],
+        }
     }
-    faults
+
+    fn goes(&mut self, _n: usize, _trace: &[u32], t: usize, _held: &Held) -> Frame {
+        self.first = walks::onward(self.first, t, &self.served, &self.last, &self.earlier);
+        self.second = walks::onward(self.second, t, &self.served, &self.earlier, &self.earlier);
+        Frame(self.served[hand_of(self.first, self.second, t)] as u32)
+    }
+
+    fn served(&mut self, _n: usize, _trace: &[u32], t: usize, frame: Frame, outcome: Outcome) {
+        let at = frame.0 as usize;
+        self.earlier[at] = earlier_for(outcome, self.last[at], t as u16);
+        self.last[at] = t as u16;
+        self.served[t] = frame.0 as u8;
+    }
 }
 
 // LRU-2's faults of a trace, or refusal 2, 3 or 4; as much of its plan as there are lent words for goes into them. A refusal keeps all words.
-pub fn run(n: u32, trace: &[u32], words: &mut [u32]) -> Answer
+// A line for each rule: its promise names the rule.
+pub fn run(n: u32, trace: &[u32], words: &mut [u32]) -> Result<u32, Refusal>
     ensures { (result ≡ answered (trace_tests n trace.now) Lru2 n trace.now) × (words.new ≡ written (trace_tests n trace.now) Lru2 n trace.now words.old) }
 {
-    match calls::trace_gate(n, trace) {
-        Gate::No(refusal) => Answer::Refused(refusal),
-        Gate::Open => Answer::Faults(walked(n, trace, words)),
-    }
+    walks::run::<Lru2Policy>(n, trace, words)
 }

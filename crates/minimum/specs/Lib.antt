@@ -1,2 +1,2 @@
--- What the contracts of MIN over a whole trace cite beside document 01's definitions and `seat_at` of `walks`: devices of the code alone.
+-- What the contracts of MIN over a whole trace cite beside document 01's definitions: devices of the code, and what the policy keeps.
 pub mod Devices

@@ -11,10 +11,12 @@ use native.Mathlib.Omega.{arith}
 use lib.Dec.{eqb}
 use lib.Bits.{bit_or, or_step, or_zero_r}
 use lib.Pow.{pow_mono, shr-shr}
-use lib.Count.{ones, ones_step, count_trailing_zeros, under}
+use lib.Count.{ones, ones-le, ones_step, count_trailing_zeros, under}
 use lib.ListN.{length, get_or, take, drop, set, length-append, length-take, length-drop, take-append-drop, drop_of_length-le, get_or-append}
 use lib.Seq.{length-take-le, take-append_seam, drop-append_seam, set-append_left, get_or-append-add, drop-cons}
 use borrow.Author.Tests.{eqb-true, eqb-false, eq-eqb, ne_eqb}
+use Rattle.std.specs.List.{sum_by}
+use Rattle.std.proofs.lemmas.List.Sums.{sum_by-cons}
 use Rattle.paging.specs.Lists.{pick, not, index_of}
 use Rattle.paging.specs.Calls.{frame_limit}
 use Rattle.occupancy.specs.Map.{word_bits, map_words, bits_in, bits_of, digit, ones_in, ones_of, lowest_zero, word_of, words_of, Small, Words}
@@ -199,6 +201,11 @@ pub ones_more : (w : ℕ) (ws : List ℕ) → w < 2 ^ word_bits → ones_of (w �
 unfolding ones_of bits_of
 ones_more w ws h = ones_append (bits_in word_bits w) (bits_of ws) ∙ ap (λ (k : ℕ). k + ones_in (bits_of ws)) (ones_word word_bits w h)
 
+pub ones_sum : (map : List ℕ) → Small map → sum_by ones map ≡ ones_of map
+ones_sum [] s = unfold ones_of in refl
+ones_sum (w ∷ ws) s = sum_by-cons ones w ws ∙ ap (λ (k : ℕ). ones w + k) (ones_sum ws (small_rest w ws s)) ∙ sym (ones_more w ws (s 0 (omega arith)))
+
+-- of a map's four words
 pub ones_four : (map : List ℕ) → Words map → ones_of map ≡ ones (get_or map 0 0) + ones (get_or map 1 0) + ones (get_or map 2 0) + ones (get_or map 3 0)
 ones_four [] w = absurd (omega (arith, w.four))
 ones_four (a ∷ []) w = absurd (omega (arith, w.four))
@@ -214,6 +221,11 @@ ones_four (a ∷ b ∷ c ∷ d ∷ []) w =
       ones_more d [] (w.small 3 (omega arith)),
     )
 ones_four (a ∷ b ∷ c ∷ d ∷ e ∷ rest) w = absurd (omega (arith, w.four))
+
+-- at most the bits that there are
+pub ones_fit : (map : List ℕ) → Small map → sum_by ones map ≤ word_bits * length map
+ones_fit [] s = omega arith
+ones_fit (w ∷ ws) s = omega (arith, sum_by-cons ones w ws, ones-le word_bits w (s 0 (omega arith)), ones_fit ws (small_rest w ws s))
 
 -- ---- the lowest zero bit
 

@@ -16,23 +16,18 @@ pub const WORDS: usize = (calls::FRAMES / BITS) as usize;
 pub fn held(map: [u64; WORDS]) -> u32
     ensures { result ≡ ones_of map }
 {
-    u64::count_ones(map[0])
-        + u64::count_ones(map[1])
-        + u64::count_ones(map[2])
-        + u64::count_ones(map[3])
+    map.iter().map(|word| word.count_ones()).sum()
 }
 
-// The next free frame while fewer than all are occupied: the lowest zero bit, which is the first that the complement has set; 256 where there is none.
+// The next free frame while fewer than all are occupied: the lowest zero bit, which is the first that the complement has set; 256 and no Option where there is none, as the clause says (`lowest_zero`): `lowest_only` compares it with a number.
 pub fn next_free(map: [u64; WORDS]) -> Frame
     ensures { result.0 ≡ lowest_zero map }
 {
-    let mut i: usize = 0;
-    while i < WORDS {
-        let bit = u64::trailing_zeros(!map[i]);
+    for (i, word) in map.iter().enumerate() {
+        let bit = (!*word).trailing_zeros();
         if bit < BITS {
             return Frame(BITS * i as u32 + bit);
         }
-        i += 1;
     }
     Frame(calls::FRAMES)
 }

@@ -1,5 +1,6 @@
 -- Laws of the table of refusals, the rules' numbers and the chain of tests.
 -- Assumes nothing.
+use Rattle.std.specs.Prelude.{Ok, Err}
 use mathlib.Core.Path.{◌≡◌, refl}
 use mathlib.Core.Logic.{◌⊎◌, inl, inr, ◌↔◌}
 use mathlib.Core.Bool.{Bool, true, false}
@@ -14,8 +15,6 @@ use Rattle.paging.specs.Refusals.{table}
 use Rattle.paging.specs.Rules.{mark, rule_numbered}
 use Rattle.paging.specs.Calls.{Test, gate, marked, first_mark}
 use Rattle.paging.specs.declared.Rule.TheVariants.{Lru, Fifo, Min, Lru2}
-use Rattle.paging.specs.declared.Numbered.TheVariants.{Is, Unknown}
-use Rattle.paging.specs.declared.Gate.TheVariants.{Open, No}
 use Rattle.paging.specs.declared.Refusal.{Refusal}
 use Rattle.paging.specs.declared.Refusal.TheVariants.{UnknownRule, FramesOutside, TraceTooLong, MarkRequested, UnsoundRecord, LentTooShort, PlanBroken, ClockFull, FileCut, CountNotAllowed, BytesLeftOver, PlanAboveCache}
 use Rattle.paging.proofs.Lists.{false≢true, any_index, index_passes, index_first, none_at, at_none}
@@ -32,10 +31,10 @@ twelve_numbers at = refl
 
 -- ---- the rules' numbers
 
-pub four_rules : map rule_numbered (1 ∷ 2 ∷ 3 ∷ 4 ∷ []) ≡ Is Lru ∷ Is Fifo ∷ Is Min ∷ Is Lru2 ∷ []
+pub four_rules : map rule_numbered (1 ∷ 2 ∷ 3 ∷ 4 ∷ []) ≡ Ok Lru ∷ Ok Fifo ∷ Ok Min ∷ Ok Lru2 ∷ []
 four_rules = refl
 
-pub no_other_rule : (number : ℕ) → (number ≡ 0) ⊎ (4 < number) → rule_numbered number ≡ Unknown
+pub no_other_rule : (number : ℕ) → (number ≡ 0) ⊎ (4 < number) → rule_numbered number ≡ (Err UnknownRule)
 no_other_rule number (inl e) = rw e
 no_other_rule number (inr h) =
     rw (ne_eqb number 1 (λ e. omega arith), ne_eqb number 2 (λ e. omega arith), ne_eqb number 3 (λ e. omega arith), ne_eqb number 4 (λ e. omega arith))
@@ -43,24 +42,24 @@ no_other_rule number (inr h) =
 -- ---- the chain
 
 -- the gate is open exactly when no test is true
-pub open_exactly : (ts : List Test) → (gate ts ≡ Open) ↔ (all (λ (t : Test). not t.when) ts ≡ true)
+pub open_exactly : (ts : List Test) → (gate ts ≡ Ok tt) ↔ (all (λ (t : Test). not t.when) ts ≡ true)
 unfolding gate all
 open_exactly [] = ((λ e. refl), λ e. refl)
 open_exactly (t ∷ ts) = go t.when (open_exactly ts)
   where
-    go : (b : Bool) → ((gate ts ≡ Open) ↔ (all (λ (t : Test). not t.when) ts ≡ true))
-        → (pick b (No t.say) (gate ts) ≡ Open) ↔ (pick (not b) (all (λ (t : Test). not t.when) ts) false ≡ true)
+    go : (b : Bool) → ((gate ts ≡ Ok tt) ↔ (all (λ (t : Test). not t.when) ts ≡ true))
+        → (pick b (Err t.say) (gate ts) ≡ Ok tt) ↔ (pick (not b) (all (λ (t : Test). not t.when) ts) false ≡ true)
     go true ih = ((λ e. absurd (let k : ◌≡◌ {A = ℕ} 0 1 = cc in omega arith)), λ e. absurd (false≢true e))
     go false ih = ih
 
 -- the first test that is true decides, whatever comes after it
-pub first_decides : (before : List Test) (t : Test) (after : List Test) → gate before ≡ Open → t.when ≡ true → gate (before ++ t ∷ after) ≡ No t.say
+pub first_decides : (before : List Test) (t : Test) (after : List Test) → gate before ≡ Ok tt → t.when ≡ true → gate (before ++ t ∷ after) ≡ Err t.say
 unfolding gate
 first_decides [] t after e h = rw h
 first_decides (s ∷ before) t after e h = go s.when e (first_decides before t after)
   where
-    go : (b : Bool) → pick b (No s.say) (gate before) ≡ Open → (gate before ≡ Open → t.when ≡ true → gate (before ++ t ∷ after) ≡ No t.say)
-        → pick b (No s.say) (gate (before ++ t ∷ after)) ≡ No t.say
+    go : (b : Bool) → pick b (Err s.say) (gate before) ≡ Ok tt → (gate before ≡ Ok tt → t.when ≡ true → gate (before ++ t ∷ after) ≡ Err t.say)
+        → pick b (Err s.say) (gate (before ++ t ∷ after)) ≡ Err t.say
     go true e ih = absurd (let k : ◌≡◌ {A = ℕ} 0 1 = cc in omega arith)
     go false e ih = ih e h
 

@@ -2,6 +2,7 @@
 --
 -- In order: the three ways of one request, as equations; what they do to the held pages; the same at every moment of a walk from empty.
 -- Assumes nothing.
+use Rattle.std.specs.Prelude.{Some, None}
 use mathlib.Core.Path.{◌≡◌, refl, sym, ap, ◌∙◌, subst}
 use mathlib.Core.Logic.{◌⊎◌, inl, inr, ⊎_elim, ◌↔◌}
 use mathlib.Core.Bool.{Bool, true, false}
@@ -16,14 +17,15 @@ use Rattle.paging.specs.Rules.{Sees, chosen}
 use Rattle.paging.specs.Walk.{holds, zero_entry, entry_at, pages, loaded_at, renewed, outcome, next, outcomes, sees_at, entries_at}
 use Rattle.paging.specs.Lists.{pick, any, index_of, mem, place_of}
 use Rattle.paging.specs.Held.{if_held, held_after}
-use Rattle.paging.specs.declared.Found.TheVariants.{At, Absent}
 use Rattle.paging.specs.Meanings.{In, Apart}
 use Rattle.paging.specs.declared.Page.{Page}
 use Rattle.paging.specs.declared.Entry.{Entry}
 use Rattle.paging.specs.declared.Rule.{Rule}
 use Rattle.paging.specs.declared.Outcome.{Outcome}
 use Rattle.paging.specs.declared.Outcome.TheVariants.{Hit, Loaded, Dropped}
-use Rattle.paging.proofs.Lists.{any_map, index_map, get_d_map, map_snoc, map_set, length_snoc, snoc_cases, set_cases}
+use Rattle.std.proofs.Math.ListN.{get_or-map}
+use Rattle.std.proofs.lemmas.List.{map-append, map-set}
+use Rattle.paging.proofs.Lists.{any_map, index_map, length_snoc, snoc_cases, set_cases}
 use Rattle.paging.proofs.Choice.{chosen_below}
 use Rattle.paging.proofs.Held.{mem_place, absent_in, apart_nil, apart_snoc, apart_set, set_in}
 
@@ -33,14 +35,14 @@ pub pages_length : (es : List Entry) → length (pages es) ≡ length es
 pages_length es = length-map es (λ (e : Entry). e.page.0)
 
 pub pages_at : (es : List Entry) (i : ℕ) → get_or (pages es) i 0 ≡ (entry_at es i).page.0
-pages_at es i = get_d_map (λ (e : Entry). e.page.0) zero_entry es i
+pages_at es i = get_or-map (λ (e : Entry). e.page.0) es i zero_entry
 
 -- a page is held where it stands among the pages
 pub mem_pages : (p : ℕ) (es : List Entry) → mem p (pages es) ≡ holds p es
 unfolding holds
 mem_pages p es = go (mem p (pages es))
   where
-    go : (b : Bool) → b ≡ if_held (pick b (At (record { 0 = place_of p (pages es) })) Absent) (λ (f : ℕ). true) false
+    go : (b : Bool) → b ≡ if_held (pick b (Some (record { 0 = place_of p (pages es) })) None) (λ (f : ℕ). true) false
     go true = refl
     go false = refl
 
@@ -108,21 +110,21 @@ module _ (rule : Rule) (n t p : ℕ) (sees : Sees) (es : List Entry) where
 
   -- with room the new page takes the lowest free frame
   pub pages_room : holds p es ≡ false → length es < n → pages (next rule n t p sees es) ≡ pages es ++ (p ∷ [])
-  pages_room q h = ap pages (next_room q h) ∙ map_snoc (λ (e : Entry). e.page.0) es (loaded_at t p)
+  pages_room q h = ap pages (next_room q h) ∙ map-append (λ (e : Entry). e.page.0) es (loaded_at t p ∷ [])
 
   -- in a full cache it takes the frame of the page dropped
   pub pages_full : holds p es ≡ false → n ≤ length es → pages (next rule n t p sees es) ≡ set (pages es) (chosen rule sees es) p
-  pages_full q h = ap pages (next_full q h) ∙ map_set (λ (e : Entry). e.page.0) es (chosen rule sees es) (loaded_at t p)
+  pages_full q h = ap pages (next_full q h) ∙ map-set (λ (e : Entry). e.page.0) es (chosen rule sees es) (loaded_at t p)
 
   -- so they are the pages held after a request, with the rule's choice as the page that goes
-  pub pages_after : pages (next rule n t p sees es) ≡ held_after n p (At (record { 0 = chosen rule sees es })) (pages es)
+  pub pages_after : pages (next rule n t p sees es) ≡ held_after n p (Some (record { 0 = chosen rule sees es })) (pages es)
   unfolding held_after
   pages_after = go (ways n p es)
     where
       l : length (pages es) ≡ length es
       l = pages_length es
 
-      go : Ways n p es → pages (next rule n t p sees es) ≡ held_after n p (At (record { 0 = chosen rule sees es })) (pages es)
+      go : Ways n p es → pages (next rule n t p sees es) ≡ held_after n p (Some (record { 0 = chosen rule sees es })) (pages es)
       go (inl q) = rw (pages_hit q, mem_pages p es ∙ q)
       go (inr (inl (q, h))) = rw (pages_room q h, mem_pages p es ∙ q, l, lt-ltb (length es) n h)
       go (inr (inr (q, h))) = rw (pages_full q h, mem_pages p es ∙ q, l, le-ltb (length es) n h)

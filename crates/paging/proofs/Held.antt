@@ -1,6 +1,7 @@
 -- Lists of held pages: who is held and where, no page in two frames, and what keeps it so.
 -- Both the walk of a rule and the check of a plan are walks over such a list.
 -- Assumes nothing.
+use Rattle.std.specs.Prelude.{Some, None}
 use mathlib.Core.Path.{◌≡◌, refl, sym, ap, ◌∙◌}
 use mathlib.Core.Logic.{◌⊎◌, inl, inr, ⊎_elim, ◌↔◌}
 use mathlib.Core.Bool.{Bool, true, false}
@@ -13,8 +14,7 @@ use lib.ListN.{length, get_or, set, length-set}
 use lib.Seq.{get_or-set_same, get_or-set_other, get_or-append_seam}
 use borrow.Author.Tests.{eqb-true, eq-eqb}
 use Rattle.paging.specs.Lists.{pick, index_of, mem, place_of}
-use Rattle.paging.specs.Held.{found}
-use Rattle.paging.specs.declared.Found.TheVariants.{At, Absent}
+use Rattle.paging.specs.Held.{Found, found}
 use Rattle.paging.specs.declared.Frame.{Frame}
 use Rattle.paging.specs.Meanings.{In, Apart}
 use Rattle.paging.proofs.Lists.{false≢true, bool_cases, any_index, index_first, index_passes, index_is, at_any, snoc_cases, set_cases, length_snoc, get_or_snoc_old}
@@ -71,32 +71,32 @@ place_is held a i h = index_is _ 0 held i h (eq-eqb (get_or held i 0) (get_or he
 
 -- what the answer tells of the test and the place
 module _ (p : ℕ) (held : List ℕ) where
-  pub found_there : mem p held ≡ true → found p held ≡ At (record { 0 = place_of p held })
+  pub found_there : mem p held ≡ true → found p held ≡ Some (record { 0 = place_of p held })
   unfolding found
   found_there e = rw e
 
-  pub found_nowhere : mem p held ≡ false → found p held ≡ Absent
+  pub found_nowhere : mem p held ≡ false → found p held ≡ None
   unfolding found
   found_nowhere e = rw e
 
-  pub there_found : (f : Frame) → found p held ≡ At f → (mem p held ≡ true) × (place_of p held ≡ f.0)
+  pub there_found : (f : Frame) → found p held ≡ Some f → (mem p held ≡ true) × (place_of p held ≡ f.0)
   unfolding found
   there_found f = go (mem p held)
     where
-      go : (b : Bool) → pick b (At (record { 0 = place_of p held })) Absent ≡ At f → (b ≡ true) × (place_of p held ≡ f.0)
+      go : (b : Bool) → pick b (Some (record { 0 = place_of p held })) None ≡ Some f → (b ≡ true) × (place_of p held ≡ f.0)
       go true e = (refl, (cc))
       go false e = absurd (let z : ◌≡◌ {A = ℕ} 0 1 = cc in omega arith)
 
-  pub nowhere_found : found p held ≡ Absent → mem p held ≡ false
+  pub nowhere_found : found p held ≡ None → mem p held ≡ false
   unfolding found
   nowhere_found = go (mem p held)
     where
-      go : (b : Bool) → pick b (At (record { 0 = place_of p held })) Absent ≡ Absent → b ≡ false
+      go : (b : Bool) → pick {A = Found} b (Some (record { 0 = place_of p held })) None ≡ None → b ≡ false
       go true e = absurd (let z : ◌≡◌ {A = ℕ} 0 1 = cc in omega arith)
       go false e = refl
 
   -- THE FRAME TOLD is in use and has the page, and no lower one has it
-  pub found_has : (f : Frame) → found p held ≡ At f
+  pub found_has : (f : Frame) → found p held ≡ Some f
       → (f.0 < length held) × (get_or held f.0 0 ≡ p) × ((i : ℕ) → i < f.0 → get_or held i 0 ≡ p → ⊥)
   found_has f e =
       let (m, q) = there_found f e in
@@ -104,13 +104,13 @@ module _ (p : ℕ) (held : List ℕ) where
       rw (← q) (h, g, place_first p held)
 
   -- ABSENT is told exactly where no frame has it
-  pub absent_exactly : (found p held ≡ Absent) ↔ (In p held → ⊥)
+  pub absent_exactly : (found p held ≡ None) ↔ (In p held → ⊥)
   absent_exactly = ((λ e. absent_in p held (nowhere_found e)), λ out. found_nowhere (not_in p held out))
 
   -- in pages that differ the frame told is the only one that has the page
-  pub found_only : Apart held → (i : ℕ) → i < length held → get_or held i 0 ≡ p → found p held ≡ At (record { 0 = i })
+  pub found_only : Apart held → (i : ℕ) → i < length held → get_or held i 0 ≡ p → found p held ≡ Some (record { 0 = i })
   found_only a i h e =
-      found_there (in_mem p held (i, h, e)) ∙ ap (λ (f : ℕ). At (record { 0 = f })) (ap (λ (q : ℕ). place_of q held) (sym e) ∙ place_is held a i h)
+      found_there (in_mem p held (i, h, e)) ∙ ap (λ (f : ℕ). Some (record { 0 = f })) (ap (λ (q : ℕ). place_of q held) (sym e) ∙ place_is held a i h)
 
 -- ---- one page more, and one page in place of another
 

@@ -10,22 +10,12 @@ use Prim.Native.Nat.{ℕ, zero, suc, ◌≤◌, ◌<◌}
 use native.Mathlib.Omega.{arith}
 use native.Mathlib.Decide.{dec_le, dec_lt, ℕ_discrete}
 use native.Mathlib.Nat.{le_of_suc-le-suc}
-use lib.ListN.{length, get_or, set, length-append, length-set}
+use lib.ListN.{length, get_or, set, get_or-append, length-append, length-set}
 use lib.Seq.{get_or-set_same, get_or-set_other, get_or-append_seam}
+pub use Rattle.std.proofs.lemmas.Bool.{false≢true, true≢false, cases_Bool as bool_cases}
 use Rattle.paging.specs.Lists.{pick, both, implies, any, all, index_of}
 
 -- ---- truth values
-
-pub false≢true : false ≡ true → ⊥
-false≢true e = let k : ◌≡◌ {A = ℕ} 0 1 = cc in omega arith
-
-pub true≢false : true ≡ false → ⊥
-true≢false e = false≢true (sym e)
-
--- a truth value is one or the other
-pub bool_cases : (b : Bool) → (b ≡ true) ⊎ (b ≡ false)
-bool_cases true = inl refl
-bool_cases false = inr refl
 
 pub both_first : (a b : Bool) → both a b ≡ true → a ≡ true
 both_first true b e = refl
@@ -188,9 +178,7 @@ module _ {A : Type 0} (d : A) (good : A → Bool) (key : A → ℕ) where
 
 module _ {A : Type 0} (d : A) where
   pub get_or_snoc_old : (xs : List A) (y : A) (i : ℕ) → i < length xs → get_or (xs ++ (y ∷ [])) i d ≡ get_or xs i d
-  get_or_snoc_old [] y i h = absurd (omega arith)
-  get_or_snoc_old (x ∷ xs) y zero h = refl
-  get_or_snoc_old (x ∷ xs) y (suc i) h = get_or_snoc_old xs y i (omega arith)
+  get_or_snoc_old xs y i h = get_or-append xs (y ∷ []) d i h
 
   pub length_snoc : (xs : List A) (y : A) → length (xs ++ (y ∷ [])) ≡ suc (length xs)
   length_snoc xs y = omega (arith, length-append xs (y ∷ []))
@@ -215,20 +203,6 @@ module _ {A : Type 0} (d : A) where
 -- ---- a map
 
 module _ {A B : Type 0} (f : A → B) where
-  pub get_d_map : (d : A) (xs : List A) (i : ℕ) → get_or (map f xs) i (f d) ≡ f (get_or xs i d)
-  get_d_map d [] i = refl
-  get_d_map d (x ∷ xs) zero = refl
-  get_d_map d (x ∷ xs) (suc i) = get_d_map d xs i
-
-  pub map_snoc : (xs : List A) (y : A) → map f (xs ++ (y ∷ [])) ≡ map f xs ++ (f y ∷ [])
-  map_snoc [] y = refl
-  map_snoc (x ∷ xs) y = ap (λ (r : List B). f x ∷ r) (map_snoc xs y)
-
-  pub map_set : (xs : List A) (i : ℕ) (y : A) → map f (set xs i y) ≡ set (map f xs) i (f y)
-  map_set [] i y = refl
-  map_set (x ∷ xs) zero y = refl
-  map_set (x ∷ xs) (suc i) y = ap (λ (r : List B). f x ∷ r) (map_set xs i y)
-
   module _ (test : B → Bool) where
     pub any_map : (xs : List A) → any test (map f xs) ≡ any (λ (x : A). test (f x)) xs
     unfolding any

@@ -2,6 +2,7 @@
 --
 -- The two walks go side by side: what the checker holds is, frame by frame, the pages that the rule holds.
 -- Assumes nothing.
+use Rattle.std.specs.Prelude.{Ok}
 use mathlib.Core.Path.{◌≡◌, sym, ap, ◌∙◌}
 use mathlib.Core.Logic.{inl, inr}
 use mathlib.Core.Bool.{true, false}
@@ -18,8 +19,6 @@ use Rattle.paging.specs.Meanings.{Apart}
 use Rattle.paging.specs.declared.Entry.{Entry}
 use Rattle.paging.specs.declared.Rule.{Rule}
 use Rattle.paging.specs.declared.Outcome.TheVariants.{Hit, Loaded, Dropped}
-use Rattle.paging.specs.declared.Gate.TheVariants.{Open}
-use Rattle.paging.specs.declared.Answer.TheVariants.{Faults}
 use Rattle.paging.proofs.Choice.{chosen_below}
 use Rattle.paging.proofs.Held.{in_mem, place_is, apart_nil}
 use Rattle.paging.proofs.Frames.{pages_length, pages_at, mem_pages, Ways, ways, outcome_hit, outcome_room, outcome_full, pages_hit, pages_room, pages_full, next_apart}
@@ -28,7 +27,7 @@ use Rattle.paging.proofs.Frames.{pages_length, pages_at, mem_pages, Ways, ways, 
 
 -- the rule's own word keeps the plan rule, counts as the request does, and leaves the checker with the rule's pages
 record Agrees (rule : Rule) (n t p : ℕ) (sees : Sees) (es : List Entry) : Type 0 where
-  keeps : judged n t (pages es) p (word_of (outcome rule n p sees es)) ≡ Open
+  keeps : judged n t (pages es) p (word_of (outcome rule n p sees es)) ≡ Ok tt
   counts : absent p (pages es) ≡ fault_of (outcome rule n p sees es)
   leaves : after n (pages es) p (word_of (outcome rule n p sees es)) ≡ pages (next rule n t p sees es)
 
@@ -77,17 +76,17 @@ module _ (rule : Rule) (n t p : ℕ) (sees : Sees) (es : List Entry) (some : 1 �
 -- ---- the walks
 
 own_from : (rule : Rule) (n : ℕ) → 1 ≤ n → (past ps : List ℕ) (t f : ℕ) (es : List Entry) → Apart (pages es)
-    → check_from n t f (pages es) ps (plan_in (outcomes rule n t past ps es)) ≡ Faults (f + faults_in (outcomes rule n t past ps es))
+    → check_from n t f (pages es) ps (plan_in (outcomes rule n t past ps es)) ≡ Ok (f + faults_in (outcomes rule n t past ps es))
 unfolding check_from plan_in outcomes faults_in
-own_from rule n some past [] t f es apart = ap Faults (omega arith)
+own_from rule n some past [] t f es apart = ap Ok (omega arith)
 own_from rule n some past (p ∷ ps) t f es apart =
     let sees : Sees = between past ps in
     let a : Agrees rule n t p sees es = agrees rule n t p sees es some apart in
     rw (a.keeps, a.counts, a.leaves)
     (own_from rule n some (past ++ (p ∷ [])) ps (suc t) (f + fault_of (outcome rule n p sees es)) (next rule n t p sees es) (next_apart rule n t p sees es apart)
-    ∙ ap Faults (omega arith))
+    ∙ ap Ok (omega arith))
 
 -- DEMAND 2, its last sentence
-pub own_plan_accepted : (rule : Rule) (n : ℕ) (trace : List ℕ) → 1 ≤ n → check n trace (plan rule n trace) ≡ Faults (faults rule n trace)
+pub own_plan_accepted : (rule : Rule) (n : ℕ) (trace : List ℕ) → 1 ≤ n → check n trace (plan rule n trace) ≡ Ok (faults rule n trace)
 unfolding check plan faults
-own_plan_accepted rule n trace some = own_from rule n some [] trace 0 0 [] apart_nil ∙ ap Faults (omega arith)
+own_plan_accepted rule n trace some = own_from rule n some [] trace 0 0 [] apart_nil ∙ ap Ok (omega arith)

@@ -3,6 +3,7 @@
 --
 -- The sentences are `Keeps` of specs/Meanings.antt. In order: one entry; the check against them; the laws; what is held after a request.
 -- Assumes nothing.
+use Rattle.std.specs.Prelude.{Ok, Err}
 use mathlib.Core.Path.{◌≡◌, refl, sym, ap, ◌∙◌, subst}
 use mathlib.Core.Logic.{◌⊎◌, inl, inr, ◌↔◌}
 use mathlib.Core.Bool.{Bool, true, false}
@@ -18,10 +19,7 @@ use Rattle.paging.specs.Rules.{mark}
 use Rattle.paging.specs.Lists.{mem, place_of}
 use Rattle.paging.specs.Plans.{judged, after, absent, through, check_from, check, held_at}
 use Rattle.paging.specs.Meanings.{In, Apart, Keeps, KeepsAt, absences}
-use Rattle.paging.specs.declared.Gate.{Gate}
-use Rattle.paging.specs.declared.Gate.TheVariants.{Open, No}
-use Rattle.paging.specs.declared.Answer.{Answer}
-use Rattle.paging.specs.declared.Answer.TheVariants.{Faults, Refused}
+use Rattle.paging.specs.Refusals.{Gate, Answer}
 use Rattle.paging.specs.declared.Refusal.{Refusal}
 use Rattle.paging.specs.declared.Refusal.TheVariants.{PlanBroken}
 use Rattle.paging.proofs.Held.{in_mem, mem_in, not_in, absent_in, absent_place, mem_place, apart_nil, apart_snoc, apart_set, snoc_in, set_in}
@@ -30,12 +28,12 @@ use Rattle.paging.proofs.Held.{in_mem, mem_in, not_in, absent_in, absent_place, 
 
 module _ (m t : ℕ) (held : List ℕ) (p w : ℕ) where
   -- an entry is passed or told as broken, as it keeps the three sentences or not
-  pub judged_is : ((judged m t held p w ≡ Open) × Keeps m held p w) ⊎ ((judged m t held p w ≡ No (PlanBroken t)) × (Keeps m held p w → ⊥))
+  pub judged_is : ((judged m t held p w ≡ Ok tt) × Keeps m held p w) ⊎ ((judged m t held p w ≡ Err (PlanBroken t)) × (Keeps m held p w → ⊥))
   unfolding judged
   judged_is = go (mem p held) (ltb (length held) m) (eqb w mark) (mem w held) refl refl refl refl
     where
       go : (a b c d : Bool) → mem p held ≡ a → ltb (length held) m ≡ b → eqb w mark ≡ c → mem w held ≡ d
-          → ((judged m t held p w ≡ Open) × Keeps m held p w) ⊎ ((judged m t held p w ≡ No (PlanBroken t)) × (Keeps m held p w → ⊥))
+          → ((judged m t held p w ≡ Ok tt) × Keeps m held p w) ⊎ ((judged m t held p w ≡ Err (PlanBroken t)) × (Keeps m held p w → ⊥))
       go true b true d p1 p2 p3 p4 =
           inl (rw (p1, p3), record { on_a_hit = λ i. eqb-true _ _ p3; with_room = λ o h. eqb-true _ _ p3; when_full = λ o h. absurd (o (mem_in p held p1)) })
       go true b false d p1 p2 p3 p4 = inr (rw (p1, p3), λ k. eqb-false _ _ p3 (k.on_a_hit (mem_in p held p1)))
@@ -62,8 +60,8 @@ module _ (m : ℕ) (trace words : List ℕ) where
   -- accepted with its absences; or the first entry that breaks the rule
   abbrev Judgement : ℕ → ℕ → ℕ → Answer → Type 0
   Judgement t k f answer =
-      (((j : ℕ) → t ≤ j → j < t + k → KeepsAt m trace words j) × (answer ≡ Faults (f + absences m trace words t k)))
-      ⊎ ((s : ℕ) × (t ≤ s) × (s < t + k) × ((j : ℕ) → t ≤ j → j < s → KeepsAt m trace words j) × (KeepsAt m trace words s → ⊥) × (answer ≡ Refused (PlanBroken s)))
+      (((j : ℕ) → t ≤ j → j < t + k → KeepsAt m trace words j) × (answer ≡ Ok (f + absences m trace words t k)))
+      ⊎ ((s : ℕ) × (t ≤ s) × (s < t + k) × ((j : ℕ) → t ≤ j → j < s → KeepsAt m trace words j) × (KeepsAt m trace words s → ⊥) × (answer ≡ Err (PlanBroken s)))
 
   -- one request of the check
   check_step : (t f : ℕ) → t < length trace → length trace ≤ length words
@@ -77,7 +75,7 @@ module _ (m : ℕ) (trace words : List ℕ) where
       → Judgement t k f (check_from m t f (held_at m trace words t) (drop t trace) (drop t words))
   unfolding check_from absences
   verdict zero t f h l =
-      inl ((λ j a b. absurd (omega arith)), rw (drop_of_length-le trace (let x : length trace ≤ t = omega arith in x)) (ap Faults (omega arith)))
+      inl ((λ j a b. absurd (omega arith)), rw (drop_of_length-le trace (let x : length trace ≤ t = omega arith in x)) (ap Ok (omega arith)))
   verdict (suc k) t f h l =
       go (judged_is m t (held_at m trace words t) (get_or trace t 0) (get_or words t 0))
       (verdict k (suc t) (f + absent (get_or trace t 0) (held_at m trace words t)) (omega arith) l)
@@ -95,11 +93,11 @@ module _ (m : ℕ) (trace words : List ℕ) where
       more : (s : ℕ) → KeepsAt m trace words t → ((j : ℕ) → suc t ≤ j → j < s → KeepsAt m trace words j) → (j : ℕ) → t ≤ j → j < s → KeepsAt m trace words j
       more s now then j a b = elim (ℕ_discrete j t) [ yes e ↦ subst (KeepsAt m trace words) (sym e) now | no e ↦ then j (omega arith) b ]
 
-      go : ((verdict_now ≡ Open) × KeepsAt m trace words t) ⊎ ((verdict_now ≡ No (PlanBroken t)) × (KeepsAt m trace words t → ⊥))
+      go : ((verdict_now ≡ Ok tt) × KeepsAt m trace words t) ⊎ ((verdict_now ≡ Err (PlanBroken t)) × (KeepsAt m trace words t → ⊥))
           → Judgement (suc t) k (f + absent (get_or trace t 0) (held_at m trace words t)) rest
           → Judgement t (suc k) f (check_from m t f (held_at m trace words t) (drop t trace) (drop t words))
       go (inl (o, now)) (inl (then, e)) =
-          inl (more (t + suc k) now (λ j a b. then j a (omega arith)), step ∙ ap (λ (g : Gate). through g rest) o ∙ e ∙ ap Faults (omega arith))
+          inl (more (t + suc k) now (λ j a b. then j a (omega arith)), step ∙ ap (λ (g : Gate). through g rest) o ∙ e ∙ ap Ok (omega arith))
       go (inl (o, now)) (inr (s, a, b, then, bad, e)) =
           inr (s, omega arith, omega arith, more s now then, bad, step ∙ ap (λ (g : Gate). through g rest) o ∙ e)
       go (inr (o, bad)) v = inr (t, omega arith, omega arith, (λ j a b. absurd (omega arith)), bad, step ∙ ap (λ (g : Gate). through g rest) o)
@@ -113,21 +111,21 @@ module _ (m : ℕ) (trace words : List ℕ) (enough : length trace ≤ length wo
   judgement = verdict m trace words (length trace) 0 0 (omega arith) enough
 
   -- accepted exactly when each entry keeps the rule
-  pub accepted_exactly : ((g : ℕ) × (check m trace words ≡ Faults g)) ↔ ((t : ℕ) → t < length trace → KeepsAt m trace words t)
+  pub accepted_exactly : ((g : ℕ) × (check m trace words ≡ Ok g)) ↔ ((t : ℕ) → t < length trace → KeepsAt m trace words t)
   accepted_exactly = ((λ a. go judgement a.0 a.1), λ keep. back judgement keep)
     where
       go : Judgement m trace words 0 (length trace) 0 (check m trace words)
-          → (g : ℕ) → check m trace words ≡ Faults g → (t : ℕ) → t < length trace → KeepsAt m trace words t
+          → (g : ℕ) → check m trace words ≡ Ok g → (t : ℕ) → t < length trace → KeepsAt m trace words t
       go (inl (keep, e)) g a t h = keep t (omega arith) (omega arith)
       go (inr (s, x, y, z, bad, e)) g a t h = absurd (let k : ◌≡◌ {A = ℕ} 0 1 = cc in omega arith)
 
       back : Judgement m trace words 0 (length trace) 0 (check m trace words) → ((t : ℕ) → t < length trace → KeepsAt m trace words t)
-          → (g : ℕ) × (check m trace words ≡ Faults g)
+          → (g : ℕ) × (check m trace words ≡ Ok g)
       back (inl (k, e)) keep = (0 + absences m trace words 0 (length trace), e)
       back (inr (s, x, y, z, bad, e)) keep = absurd (bad (keep s (omega arith)))
 
   -- and then the count is the number of requests that found their page absent
-  pub accepted_count : (g : ℕ) → check m trace words ≡ Faults g → g ≡ absences m trace words 0 (length trace)
+  pub accepted_count : (g : ℕ) → check m trace words ≡ Ok g → g ≡ absences m trace words 0 (length trace)
   accepted_count g a = go judgement
     where
       go : Judgement m trace words 0 (length trace) 0 (check m trace words) → g ≡ absences m trace words 0 (length trace)
@@ -135,7 +133,7 @@ module _ (m : ℕ) (trace words : List ℕ) (enough : length trace ≤ length wo
       go (inr (s, x, y, z, bad, e)) = absurd (let k : ◌≡◌ {A = ℕ} 0 1 = cc in omega arith)
 
   -- a refusal names the first entry that breaks the rule
-  pub refused_first : (r : Refusal) → check m trace words ≡ Refused r
+  pub refused_first : (r : Refusal) → check m trace words ≡ Err r
       → (s : ℕ) × (r ≡ PlanBroken s) × (s < length trace) × (KeepsAt m trace words s → ⊥) × ((t : ℕ) → t < s → KeepsAt m trace words t)
   refused_first r a = go judgement
     where

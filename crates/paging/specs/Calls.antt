@@ -1,13 +1,10 @@
 -- Document 01, the order of refusals in a call: 1, 2, 3, 4, 6, 7. A service appends its own tests to this chain.
 -- Each test stands beside the refusal that it gives; the first that is true decides.
 -- Assumes nothing.
-use Rattle.std.specs.Prelude.{List, [], ◌∷◌, Bool, true, false, ℕ, ltb, length}
+use Rattle.std.specs.Prelude.{List, [], ◌∷◌, Bool, true, false, ℕ, ltb, length, Ok, Err}
 use Rattle.paging.specs.Lists.{pick, mem, place_of}
-use Rattle.paging.specs.Rules.{mark, rule_numbered}
-use Rattle.paging.specs.declared.Numbered.{Numbered}
-use Rattle.paging.specs.declared.Numbered.TheVariants.{Is, Unknown}
-use Rattle.paging.specs.declared.Gate.{Gate}
-use Rattle.paging.specs.declared.Gate.TheVariants.{Open, No}
+use Rattle.paging.specs.Rules.{mark, rule_numbered, Numbered}
+use Rattle.paging.specs.Refusals.{Gate}
 use Rattle.paging.specs.declared.Refusal.{Refusal}
 use Rattle.paging.specs.declared.Refusal.TheVariants.{UnknownRule, FramesOutside, TraceTooLong, MarkRequested, LentTooShort}
 
@@ -27,15 +24,15 @@ abbrev pub test : Bool → Refusal → Test
 test when say = record { when = when; say = say }
 
 unfoldable pub gate : List Test → Gate
-gate [] = Open
-gate (t ∷ ts) = pick t.when (No t.say) (gate ts)
+gate [] = Ok tt
+gate (t ∷ ts) = pick t.when (Err t.say) (gate ts)
 
 -- ---- the tests
 
 -- 1: rule not 1 to 4
 abbrev pub unknown : Numbered → Bool
-unknown (Is rule) = false
-unknown Unknown = true
+unknown (Ok rule) = false
+unknown (Err refusal) = true
 
 -- 2: frames not 1 to 256
 abbrev pub outside : ℕ → Bool

@@ -1,10 +1,10 @@
 -- Document 01, "Trials on both sides": the cases marked P, in its order, as one theorem over one list.
 -- Beside them: a case for each clause, by itself; FIFO can fault more with more frames; and the order of refusals, on calls with several causes.
 -- Assumes nothing.
-use Rattle.std.specs.Prelude.{◌≡◌, refl, List, [], ◌∷◌, ◌++◌, Bool, true, false, ℕ, ◌<◌, eqb, replicate}
+use Rattle.std.specs.Prelude.{◌≡◌, refl, List, [], ◌∷◌, ◌++◌, Bool, true, false, ℕ, ◌<◌, eqb, replicate, Some, None, Ok, Err}
 use Rattle.std.proofs.Common.{arith}
 use Rattle.paging.specs.Lists.{both, all}
-use Rattle.paging.specs.Refusals.{table}
+use Rattle.paging.specs.Refusals.{table, Gate, Answer}
 use Rattle.paging.specs.Held.{found, held_after, frame_after}
 use Rattle.paging.specs.Rules.{mark}
 use Rattle.paging.specs.Walk.{faults, plan}
@@ -13,11 +13,6 @@ use Rattle.paging.specs.Calls.{gate, rule_tests, lent_tests}
 use Rattle.paging.specs.Services.{laid}
 use Rattle.paging.specs.declared.Rule.{Rule}
 use Rattle.paging.specs.declared.Rule.TheVariants.{Lru, Fifo, Min, Lru2}
-use Rattle.paging.specs.declared.Found.TheVariants.{At, Absent}
-use Rattle.paging.specs.declared.Gate.{Gate}
-use Rattle.paging.specs.declared.Gate.TheVariants.{Open, No}
-use Rattle.paging.specs.declared.Answer.{Answer}
-use Rattle.paging.specs.declared.Answer.TheVariants.{Faults, Refused}
 use Rattle.paging.specs.declared.Refusal.{Refusal}
 use Rattle.paging.specs.declared.Refusal.TheVariants.{UnknownRule, FramesOutside, TraceTooLong, MarkRequested, LentTooShort, PlanBroken}
 
@@ -49,15 +44,15 @@ cases =
     ∷ plans Lru 3 A (o ∷ o ∷ o ∷ o ∷ 6 ∷ 7 ∷ o ∷ 8 ∷ []) 6
     ∷ plans Fifo 3 A (o ∷ o ∷ o ∷ o ∷ 5 ∷ o ∷ 6 ∷ o ∷ []) 5
     ∷ plans Min 2 A (o ∷ o ∷ 6 ∷ o ∷ 7 ∷ 8 ∷ o ∷ 5 ∷ []) 6
-    ∷ checks 2 A (o ∷ o ∷ 5 ∷ 6 ∷ 7 ∷ 5 ∷ 8 ∷ 6 ∷ []) (Faults 8)
-    ∷ checks 2 A (o ∷ o ∷ 9 ∷ 6 ∷ 7 ∷ 5 ∷ 8 ∷ 6 ∷ []) (Refused (PlanBroken 2))
-    ∷ checks 2 A (o ∷ o ∷ o ∷ 6 ∷ 7 ∷ 5 ∷ 8 ∷ 6 ∷ []) (Refused (PlanBroken 2))
-    ∷ checks 2 A (o ∷ o ∷ 7 ∷ 6 ∷ 7 ∷ 5 ∷ 8 ∷ 6 ∷ []) (Refused (PlanBroken 2))
-    ∷ checks 3 A (o ∷ o ∷ o ∷ 5 ∷ o ∷ o ∷ o ∷ o ∷ []) (Refused (PlanBroken 3))
+    ∷ checks 2 A (o ∷ o ∷ 5 ∷ 6 ∷ 7 ∷ 5 ∷ 8 ∷ 6 ∷ []) (Ok 8)
+    ∷ checks 2 A (o ∷ o ∷ 9 ∷ 6 ∷ 7 ∷ 5 ∷ 8 ∷ 6 ∷ []) (Err (PlanBroken 2))
+    ∷ checks 2 A (o ∷ o ∷ o ∷ 6 ∷ 7 ∷ 5 ∷ 8 ∷ 6 ∷ []) (Err (PlanBroken 2))
+    ∷ checks 2 A (o ∷ o ∷ 7 ∷ 6 ∷ 7 ∷ 5 ∷ 8 ∷ 6 ∷ []) (Err (PlanBroken 2))
+    ∷ checks 3 A (o ∷ o ∷ o ∷ 5 ∷ o ∷ o ∷ o ∷ o ∷ []) (Err (PlanBroken 3))
     ∷ []
     ++ any_rule (λ (rule : Rule). plans rule 3 (5 ∷ 6 ∷ 7 ∷ []) (o ∷ o ∷ o ∷ []) 3)
     ++ any_rule (λ (rule : Rule). counts rule 1 (4 ∷ 4 ∷ 4 ∷ []) 1)
-    ++ (checks 1 [] [] (Faults 0) ∷ counts Lru2 2 (1 ∷ 2 ∷ 3 ∷ 1 ∷ 4 ∷ 5 ∷ 1 ∷ []) 7 ∷ [])
+    ++ (checks 1 [] [] (Ok 0) ∷ counts Lru2 2 (1 ∷ 2 ∷ 3 ∷ 1 ∷ 4 ∷ 5 ∷ 1 ∷ []) 7 ∷ [])
 
 -- ---- the test of a case
 
@@ -72,10 +67,10 @@ same_refusal r s = both (eqb (table r).number (table s).number) (eqb (table r).p
 
 same_answer : Answer → Answer → Bool
 unfolding same_refusal
-same_answer (Faults f) (Faults g) = eqb f g
-same_answer (Faults f) (Refused s) = false
-same_answer (Refused r) (Faults g) = false
-same_answer (Refused r) (Refused s) = same_refusal r s
+same_answer (Ok f) (Ok g) = eqb f g
+same_answer (Ok f) (Err s) = false
+same_answer (Err r) (Ok g) = false
+same_answer (Err r) (Err s) = same_refusal r s
 
 pub comes_out : Case → Bool
 unfolding same_words same_answer faults plan check
@@ -126,22 +121,22 @@ unfolding comes_out
 load_clause = refl
 
 -- a plan drops nothing while there is room
-pub room_clause : comes_out (checks 3 (5 ∷ 6 ∷ []) (mark ∷ 5 ∷ []) (Refused (PlanBroken 1))) ≡ true
+pub room_clause : comes_out (checks 3 (5 ∷ 6 ∷ []) (mark ∷ 5 ∷ []) (Err (PlanBroken 1))) ≡ true
 unfolding comes_out
 room_clause = refl
 
 -- the page being requested isn't held yet
-pub requested_clause : comes_out (checks 1 (5 ∷ 6 ∷ []) (mark ∷ 6 ∷ []) (Refused (PlanBroken 1))) ≡ true
+pub requested_clause : comes_out (checks 1 (5 ∷ 6 ∷ []) (mark ∷ 6 ∷ []) (Err (PlanBroken 1))) ≡ true
 unfolding comes_out
 requested_clause = refl
 
 -- of several entries that break the rule the first is told
-pub first_clause : comes_out (checks 1 (5 ∷ 6 ∷ 7 ∷ []) (5 ∷ 9 ∷ 9 ∷ []) (Refused (PlanBroken 0))) ≡ true
+pub first_clause : comes_out (checks 1 (5 ∷ 6 ∷ 7 ∷ []) (5 ∷ 9 ∷ 9 ∷ []) (Err (PlanBroken 0))) ≡ true
 unfolding comes_out
 first_clause = refl
 
 -- words past the trace aren't read
-pub past_clause : comes_out (checks 1 (5 ∷ 6 ∷ []) (mark ∷ 5 ∷ 9 ∷ []) (Faults 2)) ≡ true
+pub past_clause : comes_out (checks 1 (5 ∷ 6 ∷ []) (mark ∷ 5 ∷ 9 ∷ []) (Ok 2)) ≡ true
 unfolding comes_out
 past_clause = refl
 
@@ -150,21 +145,21 @@ pub laid_clause : (laid (1 ∷ 2 ∷ []) (7 ∷ 8 ∷ 9 ∷ []) ≡ 1 ∷ 2 ∷ 
 laid_clause = (refl, refl)
 
 -- which frame holds a page: the first in which it stands; absent, if it stands in none
-pub found_clause : (found 6 (5 ∷ 6 ∷ 7 ∷ []) ≡ At (record { 0 = 1 })) × (found 5 (5 ∷ 6 ∷ 5 ∷ []) ≡ At (record { 0 = 0 })) × (found 8 (5 ∷ 6 ∷ 7 ∷ []) ≡ Absent)
+pub found_clause : (found 6 (5 ∷ 6 ∷ 7 ∷ []) ≡ Some (record { 0 = 1 })) × (found 5 (5 ∷ 6 ∷ 5 ∷ []) ≡ Some (record { 0 = 0 })) × (found 8 (5 ∷ 6 ∷ 7 ∷ []) ≡ None)
 unfolding found
 found_clause = (refl, refl, refl)
 
 -- the pages held after a request: on a hit, with room, and in a full cache
 pub held_after_clause :
-    (held_after 2 5 Absent (5 ∷ 6 ∷ []) ≡ 5 ∷ 6 ∷ [])
-    × (held_after 3 7 Absent (5 ∷ 6 ∷ []) ≡ 5 ∷ 6 ∷ 7 ∷ [])
-    × (held_after 2 7 (At (record { 0 = 0 })) (5 ∷ 6 ∷ []) ≡ 7 ∷ 6 ∷ [])
+    (held_after 2 5 None (5 ∷ 6 ∷ []) ≡ 5 ∷ 6 ∷ [])
+    × (held_after 3 7 None (5 ∷ 6 ∷ []) ≡ 5 ∷ 6 ∷ 7 ∷ [])
+    × (held_after 2 7 (Some (record { 0 = 0 })) (5 ∷ 6 ∷ []) ≡ 7 ∷ 6 ∷ [])
 unfolding held_after
 held_after_clause = (refl, refl, refl)
 
 -- and the frame of its page then
 pub frame_after_clause :
-    (frame_after 2 6 Absent (5 ∷ 6 ∷ []) ≡ 1) × (frame_after 3 7 Absent (5 ∷ 6 ∷ []) ≡ 2) × (frame_after 2 7 (At (record { 0 = 0 })) (5 ∷ 6 ∷ []) ≡ 0)
+    (frame_after 2 6 None (5 ∷ 6 ∷ []) ≡ 1) × (frame_after 3 7 None (5 ∷ 6 ∷ []) ≡ 2) × (frame_after 2 7 (Some (record { 0 = 0 })) (5 ∷ 6 ∷ []) ≡ 0)
 unfolding frame_after
 frame_after_clause = (refl, refl, refl)
 
@@ -192,21 +187,21 @@ call rule frames trace words says = record { rule = rule; frames = frames; trace
 
 same_gate : Gate → Gate → Bool
 unfolding same_refusal
-same_gate Open Open = true
-same_gate Open (No s) = false
-same_gate (No r) Open = false
-same_gate (No r) (No s) = same_refusal r s
+same_gate (Ok a) (Ok b) = true
+same_gate (Ok a) (Err s) = false
+same_gate (Err r) (Ok b) = false
+same_gate (Err r) (Err s) = same_refusal r s
 
 pub calls : List Call
 unfolding A o
 calls =
-    call 5 0 (replicate 8001 o) [] (No UnknownRule)
-    ∷ call 0 257 A A (No UnknownRule)
-    ∷ call 2 257 (replicate 8000 o) [] (No (FramesOutside 0))
-    ∷ call 4 1 (5 ∷ 6 ∷ o ∷ o ∷ []) [] (No (MarkRequested 2))
-    ∷ call 1 256 A (o ∷ []) (No LentTooShort)
-    ∷ call 1 256 A A Open
-    ∷ call 4 1 (replicate 8000 4294967294) (replicate 8001 o) Open
+    call 5 0 (replicate 8001 o) [] (Err UnknownRule)
+    ∷ call 0 257 A A (Err UnknownRule)
+    ∷ call 2 257 (replicate 8000 o) [] (Err (FramesOutside 0))
+    ∷ call 4 1 (5 ∷ 6 ∷ o ∷ o ∷ []) [] (Err (MarkRequested 2))
+    ∷ call 1 256 A (o ∷ []) (Err LentTooShort)
+    ∷ call 1 256 A A (Ok tt)
+    ∷ call 4 1 (replicate 8000 4294967294) (replicate 8001 o) (Ok tt)
     ∷ []
 
 pub call_comes_out : Call → Bool
@@ -218,11 +213,11 @@ unfolding all call_comes_out calls
 calls_hold = refl
 
 -- 2 before 3
-pub order_clause : call_comes_out (call 1 0 (replicate 8001 mark) [] (No (FramesOutside 0))) ≡ true
+pub order_clause : call_comes_out (call 1 0 (replicate 8001 mark) [] (Err (FramesOutside 0))) ≡ true
 unfolding call_comes_out
 order_clause = refl
 
 -- 8,001 requests are too many
-pub limit_clause : call_comes_out (call 3 256 (replicate 8001 mark) [] (No TraceTooLong)) ≡ true
+pub limit_clause : call_comes_out (call 3 256 (replicate 8001 mark) [] (Err TraceTooLong)) ≡ true
 unfolding call_comes_out
 limit_clause = refl

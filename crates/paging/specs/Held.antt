@@ -3,20 +3,23 @@
 -- The cache is the list of the held pages in frame order: the page of frame 0 first.
 -- In order: which frame; a choice by it; the pages held after a request; the frame of its page then.
 -- Assumes nothing.
-use Rattle.std.specs.Prelude.{List, [], ◌∷◌, ◌++◌, ℕ, ltb, length, set}
+use Rattle.std.specs.Prelude.{List, [], ◌∷◌, ◌++◌, ℕ, ltb, length, set, Option, Some, None}
+use Rattle.paging.specs.declared.Frame.{Frame}
 use Rattle.paging.specs.Lists.{pick, mem, place_of}
-use Rattle.paging.specs.declared.Found.{Found}
-use Rattle.paging.specs.declared.Found.TheVariants.{At, Absent}
 
--- the frame that holds page p, or absent
+-- which frame holds a page, or none
+abbrev pub Found : Type 0
+Found = Option Frame
+
+-- the frame that holds page p, or none
 unfoldable pub found : ℕ → List ℕ → Found
 unfolding mem place_of
-found p held = pick (mem p held) (At (record { 0 = place_of p held })) Absent
+found p held = pick (mem p held) (Some (record { 0 = place_of p held })) None
 
 -- the first, of the frame, where a page is held; else the second
 abbrev pub if_held {ℓ} : {A : Type ℓ} → Found → (ℕ → A) → A → A
-if_held (At frame) there otherwise = there frame.0
-if_held Absent there otherwise = otherwise
+if_held (Some frame) there otherwise = there frame.0
+if_held None there otherwise = otherwise
 
 -- the pages held after a request of page p in n frames: on a hit they stay; with room p takes the lowest free frame; in a full cache it takes the frame of the page that goes
 unfoldable pub held_after : ℕ → ℕ → Found → List ℕ → List ℕ

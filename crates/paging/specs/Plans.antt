@@ -3,14 +3,11 @@
 -- In order: whether an entry keeps the plan rule; what is held after it; the check of a plan; what is held at a moment.
 -- The cache is the list of the held pages in frame order.
 -- Assumes nothing.
-use Rattle.std.specs.Prelude.{List, [], ◌∷◌, ℕ, zero, suc, ◌+◌, eqb, ltb, length, get_or}
+use Rattle.std.specs.Prelude.{List, [], ◌∷◌, ℕ, zero, suc, ◌+◌, eqb, ltb, length, get_or, Ok, Err}
 use Rattle.paging.specs.Lists.{pick}
 use Rattle.paging.specs.Held.{found, if_held, held_after}
 use Rattle.paging.specs.Rules.{mark}
-use Rattle.paging.specs.declared.Gate.{Gate}
-use Rattle.paging.specs.declared.Gate.TheVariants.{Open, No}
-use Rattle.paging.specs.declared.Answer.{Answer}
-use Rattle.paging.specs.declared.Answer.TheVariants.{Faults, Refused}
+use Rattle.paging.specs.Refusals.{Gate, Answer}
 use Rattle.paging.specs.declared.Refusal.TheVariants.{LentTooShort, PlanBroken}
 
 -- ---- one entry, w, for the request of page p at moment t in m frames
@@ -20,9 +17,9 @@ use Rattle.paging.specs.declared.Refusal.TheVariants.{LentTooShort, PlanBroken}
 unfoldable pub judged : ℕ → ℕ → List ℕ → ℕ → ℕ → Gate
 unfolding found
 judged m t held p w =
-    if_held (found p held) (λ (f : ℕ). pick (eqb w mark) Open (No (PlanBroken t)))
-    (pick (ltb (length held) m) (pick (eqb w mark) Open (No (PlanBroken t)))
-    (if_held (found w held) (λ (f : ℕ). Open) (No (PlanBroken t))))
+    if_held (found p held) (λ (f : ℕ). pick (eqb w mark) (Ok tt) (Err (PlanBroken t)))
+    (pick (ltb (length held) m) (pick (eqb w mark) (Ok tt) (Err (PlanBroken t)))
+    (if_held (found w held) (λ (f : ℕ). Ok tt) (Err (PlanBroken t))))
 
 -- the pages held after the request, in frame order: in a full cache the entry names the page that goes
 unfoldable pub after : ℕ → List ℕ → ℕ → ℕ → List ℕ
@@ -37,14 +34,14 @@ absent p held = if_held (found p held) (λ (f : ℕ). 0) 1
 
 -- a refusal stands in the way of the answer
 abbrev pub through : Gate → Answer → Answer
-through Open answer = answer
-through (No refusal) answer = Refused refusal
+through (Ok nothing) answer = answer
+through (Err refusal) answer = Err refusal
 
 -- from moment t on, after f faults
 unfoldable pub check_from : ℕ → ℕ → ℕ → List ℕ → List ℕ → List ℕ → Answer
 unfolding judged after found
-check_from m t f held [] words = Faults f
-check_from m t f held (p ∷ ps) [] = Refused LentTooShort
+check_from m t f held [] words = Ok f
+check_from m t f held (p ∷ ps) [] = Err LentTooShort
 check_from m t f held (p ∷ ps) (w ∷ ws) =
     let r = check_from m (suc t) (f + absent p held) (after m held p w) ps ws in through (judged m t held p w) r
 

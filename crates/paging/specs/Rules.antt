@@ -3,13 +3,13 @@
 -- A rule is a description: `drops rule sees es e` is true of the entry e that goes, among the held entries es, with what the rule sees of the list of
 -- requests. Exactly one entry fits it (proofs/Drops.antt; specs/Meanings.antt says each description in terms of the trace); its frame is `chosen`.
 -- Assumes nothing.
-use Rattle.std.specs.Prelude.{Bool, List, [], ℕ, eqb, leb, length}
+use Rattle.std.specs.Prelude.{Bool, List, [], ℕ, eqb, leb, length, Result, Ok, Err}
 use Rattle.paging.specs.Lists.{pick, both, implies, any, all, index_of, place_of}
 use Rattle.paging.specs.declared.Entry.{Entry}
 use Rattle.paging.specs.declared.Rule.{Rule}
 use Rattle.paging.specs.declared.Rule.TheVariants.{Lru, Fifo, Min, Lru2}
-use Rattle.paging.specs.declared.Numbered.{Numbered}
-use Rattle.paging.specs.declared.Numbered.TheVariants.{Is, Unknown}
+use Rattle.paging.specs.declared.Refusal.{Refusal}
+use Rattle.paging.specs.declared.Refusal.TheVariants.{UnknownRule}
 
 -- "no page" or "no moment", according to the field
 abbrev pub mark : ℕ
@@ -89,15 +89,19 @@ unfoldable pub chosen : Rule → Sees → List Entry → ℕ
 unfolding drops index_of
 chosen rule sees es = index_of (drops rule sees es) es
 
+-- what a rule's number stands for: a rule, or refusal 1
+abbrev pub Numbered : Type 0
+Numbered = Result Rule Refusal
+
 -- document 01's numbers of the rules
 abbrev pub rule_numbered : ℕ → Numbered
 rule_numbered number =
-    pick (eqb number 1) (Is Lru)
-    (pick (eqb number 2) (Is Fifo)
-    (pick (eqb number 3) (Is Min)
-    (pick (eqb number 4) (Is Lru2) Unknown)))
+    pick (eqb number 1) (Ok Lru)
+    (pick (eqb number 2) (Ok Fifo)
+    (pick (eqb number 3) (Ok Min)
+    (pick (eqb number 4) (Ok Lru2) (Err UnknownRule))))
 
 -- the rule that a number stands for, where it stands for one
 abbrev pub named : Numbered → Rule
-named (Is rule) = rule
-named Unknown = Lru
+named (Ok rule) = rule
+named (Err refusal) = Lru

@@ -1,36 +1,32 @@
-// The words of document 01: pages, frames and moments, which frame holds a page, the four rules, what a request comes to, and the twelve ways to say no.
+// The words of document 01: pages, frames and moments, the four rules, what a request comes to, and the twelve ways to say no.
 // The rules themselves, the walk and plans are definitions in specs/; their laws are in proofs/.
 #![tactic(auto)]
 
-ghost use Rattle.std.specs.Prelude.{◌≡◌};
-ghost use Rattle.paging.specs.Refusals.{table, gate_numbers};
+ghost use Rattle.std.specs.Prelude.{◌≡◌, Some};
+ghost use Rattle.paging.specs.Refusals.{table, refusal_text, gate_numbers};
 ghost use Rattle.paging.specs.Rules.{rule_numbered};
 ghost use Rattle.paging.specs.Walk.{fault_of, word_of};
+
+use std::error::Error;
+use std::fmt;
 
 // "No page" or "no moment", according to the field.
 pub const MARK: u32 = 4294967295;
 
 // A tile's number, 0 to 4,294,967,294.
-#[derive(Clone, Copy)]
+#[derive(Clone, Copy, Debug, PartialEq, Eq)]
 pub struct Page(pub u32);
 
 // A place in the cache, from 0.
-#[derive(Clone, Copy)]
+#[derive(Clone, Copy, Debug, PartialEq, Eq)]
 pub struct Frame(pub u32);
 
 // The place of a request in its trace, from 0.
-#[derive(Clone, Copy)]
+#[derive(Clone, Copy, Debug, PartialEq, Eq, PartialOrd, Ord)]
 pub struct Moment(pub u32);
 
-// Which frame holds a page.
-#[derive(Clone, Copy)]
-pub enum Found {
-    At(Frame),
-    Absent,
-}
-
-// What a frame in use knows of its page.
-#[derive(Clone, Copy)]
+// What a frame in use knows of its page. Of moments that never were, the mark and no Option: a record is words, and any word may stand there.
+#[derive(Clone, Copy, Debug, PartialEq, Eq)]
 pub struct Entry {
     pub page: Page,
     pub loaded: Moment,
@@ -39,7 +35,7 @@ pub struct Entry {
 }
 
 // The four eviction rules.
-#[derive(Clone, Copy)]
+#[derive(Clone, Copy, Debug, PartialEq, Eq)]
 pub enum Rule {
     Lru,
     Fifo,
@@ -47,35 +43,25 @@ pub enum Rule {
     Lru2,
 }
 
-// What a rule number stands for.
-#[derive(Clone, Copy)]
-pub enum Numbered {
-    Is(Rule),
-    Unknown,
-}
+// The rule that a number stands for; refusal 1, where it stands for none.
+impl TryFrom<u32> for Rule {
+    type Error = Refusal;
 
-impl Rule {
-    pub fn numbered(number: u32) -> Numbered
-        ensures { result ≡ rule_numbered number }
-    {
-        if number == 1 {
-            return Numbered::Is(Rule::Lru);
+    ghost try_from_gives = { λ number result. result ≡ rule_numbered number };
+
+    fn try_from(number: u32) -> Result<Rule, Refusal> {
+        match number {
+            1 => Ok(Rule::Lru),
+            2 => Ok(Rule::Fifo),
+            3 => Ok(Rule::Min),
+            4 => Ok(Rule::Lru2),
+            _ => Err(Refusal::UnknownRule),
         }
-        if number == 2 {
-            return Numbered::Is(Rule::Fifo);
-        }
-        if number == 3 {
-            return Numbered::Is(Rule::Min);
-        }
-        if number == 4 {
-            return Numbered::Is(Rule::Lru2);
-        }
-        Numbered::Unknown
     }
 }
 
 // What one request came to. Faults are all but hits.
-#[derive(Clone, Copy)]
+#[derive(Clone, Copy, Debug, PartialEq, Eq)]
 pub enum Outcome {
     Hit,
     Loaded,
@@ -83,7 +69,7 @@ pub enum Outcome {
 }
 
 impl Outcome {
-    // A fault is a request whose page isn't held, whether or not something is dropped.
+    // A fault is a request whose page isn't held, whether or not something is dropped. 1 or 0, as faults are added up.
     pub fn fault(self) -> u32
         ensures { result ≡ fault_of self }
     {
@@ -94,7 +80,7 @@ impl Outcome {
         }
     }
 
-    // The plan's word: the page to drop, or the mark.
+    // The plan's word: the page to drop, or the mark; no Option, as a plan is words (`word_of`).
     pub fn word(self) -> u32
         ensures { result ≡ word_of self }
     {
@@ -107,7 +93,7 @@ impl Outcome {
 }
 
 // The twelve ways to say no, in the order of their numbers. A case holds its place where document 01 does not fix it.
-#[derive(Clone, Copy)]
+#[derive(Clone, Copy, Debug, PartialEq, Eq)]
 pub enum Refusal {
     UnknownRule,
     FramesOutside(u32),
@@ -163,40 +149,38 @@ impl Refusal {
     }
 }
 
-// Whether a call may go on.
-#[derive(Clone, Copy)]
-pub enum Gate {
-    Open,
-    No(Refusal),
+// As the report's line of a refusal has it.
+impl fmt::Display for Refusal {
+    ghost output = { λ refusal. Some (refusal_text refusal) };
+
+    fn fmt<W: fmt::Write>(&self, f: &mut fmt::Formatter<W>) -> fmt::Result {
+        let refusal = *self;
+        write!(f, "refused {} at {}", refusal.number(), refusal.place())
+    }
 }
 
-// The numbers of a gate: a refusal's number and place, 0 for both where the gate is open.
-#[derive(Clone, Copy)]
+impl Error for Refusal {}
+
+// The numbers of a gate: a refusal's number and place, 0 for both where the call may go on: they leave by C (`gate_numbers`).
+#[derive(Clone, Copy, Debug, PartialEq, Eq)]
 pub struct GateNumbers {
     pub number: u32,
     pub place: u32,
 }
 
-impl Gate {
-    pub fn numbers(self) -> GateNumbers
-        ensures { result ≡ gate_numbers self }
-    {
-        match self {
-            Gate::Open => GateNumbers {
+impl From<Result<(), Refusal>> for GateNumbers {
+    ghost from_gives = { λ gate numbers. numbers ≡ gate_numbers gate };
+
+    fn from(gate: Result<(), Refusal>) -> GateNumbers {
+        match gate {
+            Ok(()) => GateNumbers {
                 number: 0,
                 place: 0,
             },
-            Gate::No(refusal) => GateNumbers {
+            Err(refusal) => GateNumbers {
                 number: refusal.number(),
                 place: refusal.place(),
             },
         }
     }
-}
-
-// The answer of a service that counts.
-#[derive(Clone, Copy)]
-pub enum Answer {
-    Faults(u32),
-    Refused(Refusal),
 }

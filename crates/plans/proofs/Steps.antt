@@ -1,99 +1,95 @@
 -- One request of the check of a plan: an entry that keeps the plan rule gives the frame for its page, and the check goes on behind it; else the check stops.
 -- Assumes nothing.
+use Rattle.std.specs.Prelude.{Some, None, Ok, Err}
 use mathlib.Core.Path.{◌≡◌, refl, sym, ap, ◌∙◌}
 use mathlib.Core.Logic.{◌⊎◌}
-use mathlib.Core.List.{List}
+use mathlib.Core.List.{List, [], ◌∷◌}
 use Prim.Native.Nat.{ℕ, ◌+◌, ◌≤◌, ◌<◌}
 use native.Mathlib.Numerals.{add-one}
 use native.Mathlib.Omega.{arith}
-use lib.ListN.{length, get_or, take, drop, drop_of_length-le}
-use lib.Seq.{drop-cons}
-use borrow.Author.Tests.{le-ltb}
+use native.Mathlib.Decide.{dec_lt}
+use lib.ListN.{length, length-set, length-append}
+use borrow.Author.Tests.{lt-ltb, le-ltb}
 use Rattle.paging.specs.Calls.{frame_limit}
-use Rattle.paging.specs.Held.{found, frame_after}
+use Rattle.paging.specs.Held.{found, frame_after, Found}
 use Rattle.paging.specs.Plans.{judged, after, absent, through, check_from}
 use Rattle.paging.specs.Walk.{fault_of}
-use Rattle.paging.specs.declared.Found.{Found}
-use Rattle.paging.specs.declared.Found.TheVariants.{At, Absent}
 use Rattle.paging.specs.declared.Frame.{Frame}
-use Rattle.paging.specs.declared.Gate.{Gate}
-use Rattle.paging.specs.declared.Gate.TheVariants.{Open, No}
-use Rattle.paging.specs.declared.Answer.TheVariants.{Faults, Refused}
+use Rattle.paging.specs.Refusals.{Gate}
 use Rattle.paging.specs.declared.Outcome.{Outcome}
 use Rattle.paging.specs.declared.Refusal.{Refusal}
 use Rattle.paging.proofs.Held.{found_has}
-use Rattle.held.specs.Index.{Indexed}
 use Rattle.held.specs.Placing.{put_outcome, put_pages}
 use Rattle.held.proofs.Placing.{Going, put_fits, put_small, put_after, put_fault}
-use Rattle.plans.specs.declared.Judged.{Judged}
-use Rattle.plans.specs.declared.Judged.TheVariants.{Keeps, Breaks}
-use Rattle.plans.specs.Devices.{settled}
+use Rattle.plans.specs.Devices.{Judged, settled}
 
 -- ---- what an entry comes to
 
-keeps_settled : (gate : Gate) (f frame : Frame) → settled gate f ≡ Keeps frame → (gate ≡ Open) × (frame.0 ≡ f.0)
-keeps_settled Open f frame e = (refl, (cc))
-keeps_settled (No r) f frame e = absurd (let z : ◌≡◌ {A = ℕ} 0 1 = cc in omega arith)
+keeps_settled : (gate : Gate) (f frame : Frame) → settled gate f ≡ Ok frame → (gate ≡ Ok tt) × (frame.0 ≡ f.0)
+keeps_settled (Ok tt) f frame e = (refl, (cc))
+keeps_settled (Err r) f frame e = absurd (let z : ◌≡◌ {A = ℕ} 0 1 = cc in omega arith)
 
-breaks_settled : (gate : Gate) (f : Frame) (r : Refusal) → settled gate f ≡ Breaks r → gate ≡ No r
-breaks_settled Open f r e = absurd (let z : ◌≡◌ {A = ℕ} 0 1 = cc in omega arith)
-breaks_settled (No q) f r e = (cc)
+breaks_settled : (gate : Gate) (f : Frame) (r : Refusal) → settled gate f ≡ Err r → gate ≡ Err r
+breaks_settled (Ok tt) f r e = absurd (let z : ◌≡◌ {A = ℕ} 0 1 = cc in omega arith)
+breaks_settled (Err q) f r e = (cc)
+
+-- a page put into a frame that there is leaves no more pages than frames
+put_few : (p f : ℕ) (before : List ℕ) → f < frame_limit → length before ≤ frame_limit → length (put_pages p f before) ≤ frame_limit
+unfolding put_pages
+put_few p f before h l = elim (dec_lt f (length before)) [
+  | yes k ↦ rw (lt-ltb f (length before) k, length-set before f p) l
+  | no k ↦ rw (le-ltb f (length before) (omega arith), length-append before (p ∷ [])) (omega arith)
+]
 
 -- nothing is left of the check
-pub check_end : (m f : ℕ) (held trace words : List ℕ) (i : ℕ) → length trace ≤ i → check_from m i f held (drop i trace) (drop i words) ≡ Faults f
+pub check_end : (m t f : ℕ) (held ps ws : List ℕ) → length ps ≡ 0 → check_from m t f held ps ws ≡ Ok f
 unfolding check_from
-check_end m f held trace words i h = rw (drop_of_length-le trace h)
+check_end m t f held [] ws e = refl
+check_end m t f held (p ∷ ps) ws e = absurd (omega (arith, e))
 
--- ---- the request of moment i
+-- ---- a request of page p at moment t, with the entry w
 
-module _
-    (m : ℕ) (trace words : List ℕ) (i : ℕ) (h : i < length trace) (l : length trace ≤ length words)
-    (held : ℕ) (pages counts hints : List ℕ) (x : Indexed held pages counts hints)
-  where
-    abbrev p : ℕ
-    p = get_or trace i 0
+module _ (m t p w : ℕ) (before : List ℕ) where
+  step : (f : ℕ) (ps ws : List ℕ) → check_from m t f before (p ∷ ps) (w ∷ ws)
+      ≡ through (judged m t before p w) (check_from m (t + 1) (f + absent p before) (after m before p w) ps ws)
+  unfolding check_from
+  step f ps ws = rw add-one
 
-    abbrev w : ℕ
-    w = get_or words i 0
+  -- in a full cache an entry that keeps the rule names a page that is held
+  named : judged m t before p w ≡ Ok tt → Going m p (found w before) before
+  unfolding judged
+  named passed out full = go (found w before) refl
+    where
+      go : (a : Found) → found w before ≡ a → (g : ℕ) × (found w before ≡ Some (record { 0 = g })) × (g < length before)
+      go (Some frame) e = (frame.0, e, (found_has w before frame e).0)
+      go None e =
+          let no = rw (out, le-ltb (length before) m full, e) at passed in
+          absurd (let z : ◌≡◌ {A = ℕ} 0 1 = cc in omega arith)
 
-    abbrev before : List ℕ
-    before = take held pages
+  module _ (j : Judged) (e : j ≡ settled (judged m t before p w) (record { 0 = frame_after m p (found w before) before })) where
+    -- the entry is refused: that is the answer
+    pub check_stop : (f : ℕ) (ps ws : List ℕ) (r : Refusal) → j ≡ Err r → check_from m t f before (p ∷ ps) (w ∷ ws) ≡ Err r
+    check_stop f ps ws r b = let no : judged m t before p w ≡ Err r = breaks_settled _ _ r (sym e ∙ b) in step f ps ws ∙ rw no
 
-    step : (f : ℕ) → check_from m i f before (drop i trace) (drop i words)
-        ≡ through (judged m i before p w) (check_from m (i + 1) (f + absent p before) (after m before p w) (drop (i + 1) trace) (drop (i + 1) words))
-    unfolding check_from
-    step f = rw (drop-cons trace i 0 h, drop-cons words i 0 (omega arith), add-one)
+    -- it keeps the rule: its page can be put into the frame, and the check goes on behind it
+    module _ (frame : Frame) (k : j ≡ Ok frame) (small : m ≤ frame_limit) (few : length before ≤ frame_limit) where
+      kept : (judged m t before p w ≡ Ok tt) × (frame.0 ≡ frame_after m p (found w before) before)
+      kept = keeps_settled _ _ frame (sym e ∙ k)
 
-    -- in a full cache an entry that keeps the rule names a page that is held
-    named : judged m i before p w ≡ Open → Going m p (found w before) before
-    unfolding judged
-    named passed out full = go (found w before) refl
-      where
-        go : (a : Found) → found w before ≡ a → (g : ℕ) × (found w before ≡ At (record { 0 = g })) × (g < length before)
-        go (At frame) e = (frame.0, e, (found_has w before frame e).0)
-        go Absent e =
-            let no = rw (out, le-ltb (length before) m full, e) at passed in
-            absurd (let z : ◌≡◌ {A = ℕ} 0 1 = cc in omega arith)
+      below : frame.0 < frame_limit
+      below = put_small p frame before m (found w before) (named kept.0) kept.1 small few
 
-    module _ (j : Judged) (e : j ≡ settled (judged m i before p w) (record { 0 = frame_after m p (found w before) before })) where
-      -- the entry is refused: that is the answer
-      pub check_stop : (f : ℕ) (r : Refusal) → j ≡ Breaks r → check_from m i f before (drop i trace) (drop i words) ≡ Refused r
-      check_stop f r b = let no : judged m i before p w ≡ No r = breaks_settled _ _ r (sym e ∙ b) in step f ∙ rw no
+      pub entry_fits : (frame.0 ≤ length before) × (frame.0 < frame_limit) × ((found p before ≡ Some frame) ⊎ (found p before ≡ None))
+      entry_fits = let (there, fits) = put_fits p frame before m (found w before) (named kept.0) kept.1 in (there, below, fits)
 
-      -- it keeps the rule: its page can be put into the frame, and the check goes on behind it
-      module _ (frame : Frame) (k : j ≡ Keeps frame) where
-        kept : (judged m i before p w ≡ Open) × (frame.0 ≡ frame_after m p (found w before) before)
-        kept = keeps_settled _ _ frame (sym e ∙ k)
+      -- the pages held then
+      module _ (o : Outcome) (told : o ≡ put_outcome p frame.0 before) (later : List ℕ) (is : later ≡ put_pages p frame.0 before) where
+        pub few_after : length later ≤ frame_limit
+        few_after = rw is (put_few p frame.0 before below few)
 
-        pub entry_fits : m ≤ frame_limit → (frame.0 ≤ held) × (frame.0 < frame_limit) × ((found p before ≡ At frame) ⊎ (found p before ≡ Absent))
-        entry_fits few =
-            let (there, fits) = put_fits p frame held pages counts hints x m (found w before) (named kept.0) kept.1 in
-            (there, put_small p frame held pages counts hints x m (found w before) (named kept.0) kept.1 few, fits)
-
-        pub check_on : (f : ℕ) (o : Outcome) → o ≡ put_outcome p frame.0 before → (fault : ℕ) → fault ≡ fault_of o → (later : List ℕ) → later ≡ put_pages p frame.0 before
-            → check_from m i f before (drop i trace) (drop i words) ≡ check_from m (i + 1) (f + fault) later (drop (i + 1) trace) (drop (i + 1) words)
+        pub check_on : (f : ℕ) (ps ws : List ℕ) → check_from m t f before (p ∷ ps) (w ∷ ws) ≡ check_from m (t + 1) (f + fault_of o) later ps ws
         unfolding after
-        check_on f o told fault a later b =
-            let faults : fault ≡ absent p before = a ∙ ap fault_of told ∙ put_fault p frame held pages counts hints x m (found w before) (named kept.0) kept.1 in
-            let pages' : later ≡ after m before p w = b ∙ put_after p frame held pages counts hints x m (found w before) (named kept.0) kept.1 in
-            step f ∙ rw (kept.0, faults, pages')
+        check_on f ps ws =
+            let faults : fault_of o ≡ absent p before = ap fault_of told ∙ put_fault p frame before m (found w before) (named kept.0) kept.1 in
+            let pages' : later ≡ after m before p w = is ∙ put_after p frame before m (found w before) (named kept.0) kept.1 in
+            step f ps ws ∙ rw (kept.0, faults, pages')

@@ -3,7 +3,7 @@
 use Rattle.std.specs.Prelude.{List, ◌++◌, ℕ}
 use Rattle.paging.specs.Plans.{through, check}
 use Rattle.paging.specs.Calls.{gate, trace_tests, lent_tests}
-use Rattle.paging.specs.declared.Answer.{Answer}
+use Rattle.paging.specs.Refusals.{Answer}
 
 unfoldable pub check_of : ℕ → List ℕ → List ℕ → Answer
 unfolding gate trace_tests lent_tests check

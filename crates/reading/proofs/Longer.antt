@@ -2,6 +2,7 @@
 --
 -- In order: the refusal of such a file; the words in the front of a file; the front is read as the whole file is.
 -- Assumes nothing.
+use Rattle.std.specs.Prelude.{Err}
 use mathlib.Core.Path.{◌≡◌, refl, sym, ap, ◌∙◌}
 use mathlib.Core.Bool.{Bool, true, false}
 use mathlib.Core.List.{List}
@@ -13,13 +14,11 @@ use lib.Seq.{get_or-take, length-take-le}
 use borrow.Author.Tests.{lt-ltb, le-ltb, ltb-false}
 use Rattle.paging.specs.Lists.{pick, not}
 use Rattle.paging.specs.Calls.{request_limit, gate}
-use Rattle.paging.specs.declared.Gate.{Gate}
-use Rattle.paging.specs.declared.Gate.TheVariants.{No}
+use Rattle.paging.specs.Refusals.{Gate}
 use Rattle.paging.specs.declared.Refusal.{Refusal}
 use Rattle.paging.specs.declared.Refusal.TheVariants.{CountNotAllowed, BytesLeftOver}
 use Rattle.words.specs.Bytes.{word_at}
 use Rattle.reading.specs.Reading.{request_count, plan_place, plan_count, file_end, plan_fits, form_tests, sizes_of, sizes_by, read_of}
-use Rattle.reading.specs.declared.ReadAnswer.TheVariants.{Refused}
 use Rattle.reading.proofs.Chains.{fits_small, read_stops}
 
 -- ---- the refusal of a file above 64,020 bytes
@@ -36,7 +35,7 @@ long_refusal file = refusal_by (word_at file 0) (request_count file) (plan_count
 
 module _ (file : List ℕ) (long : 64020 < length file) where
   -- what allowed counts ask for is there, so 9 is never given
-  form_refused : gate (form_tests file) ≡ No (long_refusal file)
+  form_refused : gate (form_tests file) ≡ Err (long_refusal file)
   unfolding gate form_tests long_refusal
   form_refused = go (eqb (word_at file 0) 2) (ltb request_limit (request_count file)) (plan_fits (request_count file) (plan_count file)) refl refl refl
     where
@@ -50,7 +49,7 @@ module _ (file : List ℕ) (long : 64020 < length file) where
       counted h = le-ltb (length file) (plan_place file + 4) (omega arith)
 
       go : (x y z : Bool) → eqb (word_at file 0) 2 ≡ x → ltb request_limit (request_count file) ≡ y → plan_fits (request_count file) (plan_count file) ≡ z
-          → gate (form_tests file) ≡ No (long_refusal file)
+          → gate (form_tests file) ≡ Err (long_refusal file)
       go false y z p q r = rw (four, p)
       go true true z p q r = rw (four, p, sixteen, q)
       go true false false p q r = rw (four, p, sixteen, q, counted (ltb-false request_limit (request_count file) q), r)
@@ -60,9 +59,9 @@ module _ (file : List ℕ) (long : 64020 < length file) where
           let l : file_end file ≤ length file = omega arith in
           rw (four, p, sixteen, q, counted h, r, le-ltb (length file) (file_end file) l, lt-ltb (file_end file) (length file) k)
 
-  pub long_refused : (a b : ℕ) → read_of file a b ≡ Refused (long_refusal file)
+  pub long_refused : (a b : ℕ) → read_of file a b ≡ Err (long_refusal file)
   unfolding read_of
-  long_refused a b = ap (λ (g : Gate). sizes_by g (sizes_of file)) (sym (read_stops file a b (long_refusal file) form_refused))
+  long_refused a b = ap (λ (g : Gate). sizes_by g (sizes_of file)) (read_stops file a b (long_refusal file) form_refused)
 
 -- ---- the words in the front of a file
 
@@ -98,4 +97,4 @@ pub reading_the_front : (file : List ℕ) (k a b : ℕ) → 64020 < k → k ≤ 
 reading_the_front file k a b h l =
     let front : 64020 < length (take k file) = rw (length-take-le k file l) h in
     let whole : 64020 < length file = omega arith in
-    long_refused (take k file) front a b ∙ ap Refused (front_refusal file k h) ∙ sym (long_refused file whole a b)
+    long_refused (take k file) front a b ∙ ap Err (front_refusal file k h) ∙ sym (long_refused file whole a b)

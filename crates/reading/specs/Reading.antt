@@ -3,16 +3,14 @@
 -- In order: where the sections of a file stand; the chain of refusals (each test beside its refusal, the first that is true decides); the
 -- answer. Everything is a function of the file's bytes and of how many words were lent.
 -- Assumes nothing.
-use Rattle.std.specs.Prelude.{List, [], ◌∷◌, ◌++◌, Bool, true, ℕ, ◌+◌, ◌*◌, ◌/◌, eqb, ltb, length}
+use Rattle.std.specs.Prelude.{List, [], ◌∷◌, ◌++◌, Bool, true, ℕ, ◌+◌, ◌*◌, ◌/◌, eqb, ltb, length, Result, Ok, Err}
 use Rattle.paging.specs.Lists.{pick, not}
 use Rattle.paging.specs.Calls.{request_limit, Test, test, gate, outside, marked, first_mark}
-use Rattle.paging.specs.declared.Gate.{Gate}
-use Rattle.paging.specs.declared.Gate.TheVariants.{Open, No}
+use Rattle.paging.specs.Refusals.{Gate}
+use Rattle.paging.specs.declared.Refusal.{Refusal}
 use Rattle.paging.specs.declared.Refusal.TheVariants.{FramesOutside, MarkRequested, LentTooShort, FileCut, CountNotAllowed, BytesLeftOver, PlanAboveCache}
 use Rattle.words.specs.Bytes.{word_at, words_at}
 use Rattle.reading.specs.declared.Sizes.{Sizes}
-use Rattle.reading.specs.declared.ReadAnswer.{ReadAnswer}
-use Rattle.reading.specs.declared.ReadAnswer.TheVariants.{Bundle, Refused}
 
 -- ---- where the sections stand: byte 0 has the count of sizes, 4 has n, 8 has m, 12 the count of requests
 
@@ -99,9 +97,13 @@ read_tests file for_requests for_plan =
 abbrev pub sizes_of : List ℕ → Sizes
 sizes_of file = record { n = word_at file 4; m = word_at file 8; requests = request_count file; planned = plan_count file }
 
+-- what a reading answers: the sizes and counts, or a refusal
+abbrev pub ReadAnswer : Type 0
+ReadAnswer = Result Sizes Refusal
+
 abbrev pub sizes_by : Gate → Sizes → ReadAnswer
-sizes_by Open sizes = Bundle sizes
-sizes_by (No refusal) sizes = Refused refusal
+sizes_by (Ok nothing) sizes = Ok sizes
+sizes_by (Err refusal) sizes = Err refusal
 
 unfoldable pub read_of : List ℕ → ℕ → ℕ → ReadAnswer
 unfolding gate read_tests

@@ -6,10 +6,11 @@ use mathlib.Core.Path.{◌≡◌, refl, sym, ap, ap₂, ◌∙◌}
 use mathlib.Core.List.{List, [], ◌∷◌}
 use mathlib.Core.Logic.{◌⊎◌, inl, inr, ⊎_elim}
 use Prim.Native.Nat.{ℕ, zero, suc, ◌+◌, ◌*◌, ◌/◌, ◌%◌, ◌≤◌, ◌<◌}
+use Rattle.std.proofs.lemmas.Grind.{common_steps}
 use native.Mathlib.Omega.{arith}
 use native.Mathlib.Decide.{dec_lt}
-use lib.ListN.{length, get_or, set, length-set}
-use lib.Seq.{get_or-set_same, get_or-set_other, set-get_or}
+use lib.ListN.{length, get_or, set}
+use lib.Seq.{set-get_or}
 use mathlib.Core.Bool.{false}
 use borrow.Author.Tests.{lt-ltb, le-ltb}
 use Rattle.paging.specs.Calls.{frame_limit}
@@ -69,120 +70,68 @@ list_again size from put words one at (suc count) fits =
 
 -- ---- a word of the map
 
+module _ (at x : ℕ) (words : List ℕ) where
+  word_length : length (put_word at x words) ≡ length words
+  word_length = grind (arith, common_steps)
+
+  word_stay : (i : ℕ) → (i < at) ⊎ (at + 2 ≤ i) → get_or (put_word at x words) i 0 ≡ get_or words i 0
+  word_stay i (inl h) = grind (arith, common_steps)
+  word_stay i (inr h) = grind (arith, common_steps)
+
+  word_back : (after : List ℕ) → at + 2 ≤ length words → ((i : ℕ) → i < at + 2 → get_or after i 0 ≡ get_or (put_word at x words) i 0) → word_from after at ≡ x
+  word_back after fits same =
+      let low : get_or after at 0 ≡ x % word_limit = same at (omega arith) ∙ grind (arith, common_steps) in
+      let high : get_or after (at + 1) 0 ≡ x / word_limit = same (at + 1) (omega arith) ∙ grind (arith, common_steps) in
+      omega arith
+
 pub word_layout : Layout 2 word_from put_word
-word_layout =
-    record {
-      same_length = λ at x words. length-set (set words at (x % word_limit)) (at + 1) (x / word_limit) ∙ length-set words at (x % word_limit);
-      others_stay = λ at x words i h.
-          get_or-set_other (set words at (x % word_limit)) (at + 1) i (x / word_limit) 0 (λ e. ⊎_elim (λ k. omega arith) (λ k. omega arith) h)
-          ∙ get_or-set_other words at i (x % word_limit) 0 (λ e. ⊎_elim (λ k. omega arith) (λ k. omega arith) h);
-      back = λ at x words after fits same.
-          let low : get_or after at 0 ≡ x % word_limit = same at (omega arith) ∙ get_or-set_other (set words at (x % word_limit)) (at + 1) at (x / word_limit) 0 (λ e. omega arith) ∙ get_or-set_same words at (x % word_limit) 0 (omega arith) in
-          let high : get_or after (at + 1) 0 ≡ x / word_limit = same (at + 1) (omega arith) ∙ get_or-set_same (set words at (x % word_limit)) (at + 1) (x / word_limit) 0 (omega (arith, length-set words at (x % word_limit))) in
-          omega arith;
-    }
+word_layout = record { same_length = word_length; others_stay = word_stay; back = word_back }
 
 word_again : (words : List ℕ) → InWords words → (at : ℕ) → at + 2 ≤ length words → put_word at (word_from words at) words ≡ words
 word_again words small at fits =
     let s : get_or words at 0 < word_limit = small at (omega arith) in
     let low : word_from words at % word_limit ≡ get_or words at 0 = omega arith in
     let high : word_from words at / word_limit ≡ get_or words (at + 1) 0 = omega arith in
-    ap₂ (λ (a b : ℕ). set (set words at a) (at + 1) b) low high
-    ∙ ap (λ (ws : List ℕ). set ws (at + 1) (get_or words (at + 1) 0)) (set-get_or words at 0)
-    ∙ set-get_or words (at + 1) 0
+    ap₂ (λ (a b : ℕ). set (set words at a) (at + 1) b) low high ∙ simp set-get_or
 
 -- ---- an entry
 
 module _ (at : ℕ) (e : Entry) (words : List ℕ) where
-  abbrev one : List ℕ
-  one = set words at e.page.0
-
-  abbrev two : List ℕ
-  two = set one (at + 1) e.loaded.0
-
-  abbrev three : List ℕ
-  three = set two (at + 2) e.last.0
-
-  three_length : (length one ≡ length words) × (length two ≡ length words) × (length three ≡ length words)
-  three_length =
-      let a = length-set words at e.page.0 in
-      let b = length-set one (at + 1) e.loaded.0 ∙ a in
-      (a, b, length-set two (at + 2) e.last.0 ∙ b)
+  entry_length : length (put_entry at e words) ≡ length words
+  entry_length = grind (arith, common_steps)
 
   entry_stay : (i : ℕ) → (i < at) ⊎ (at + 4 ≤ i) → get_or (put_entry at e words) i 0 ≡ get_or words i 0
-  entry_stay i h =
-      get_or-set_other three (at + 3) i e.earlier.0 0 (away 3 (omega arith))
-      ∙ get_or-set_other two (at + 2) i e.last.0 0 (away 2 (omega arith))
-      ∙ get_or-set_other one (at + 1) i e.loaded.0 0 (away 1 (omega arith))
-      ∙ get_or-set_other words at i e.page.0 0 (λ q. away 0 (omega arith) (omega arith))
-    where
-      away : (j : ℕ) → j < 4 → i ≡ at + j → ⊥
-      away j k q = ⊎_elim (λ m. omega arith) (λ m. omega arith) h
+  entry_stay i (inl h) = grind (arith, common_steps)
+  entry_stay i (inr h) = grind (arith, common_steps)
 
   entry_back : (after : List ℕ) → at + 4 ≤ length words → ((i : ℕ) → i < at + 4 → get_or after i 0 ≡ get_or (put_entry at e words) i 0) → entry_from after at ≡ e
   entry_back after fits same =
-      let (l1, l2, l3) = three_length in
-      let page : get_or after at 0 ≡ e.page.0 =
-      same at (omega arith)
-      ∙ get_or-set_other three (at + 3) at e.earlier.0 0 (λ q. omega arith)
-      ∙ get_or-set_other two (at + 2) at e.last.0 0 (λ q. omega arith)
-      ∙ get_or-set_other one (at + 1) at e.loaded.0 0 (λ q. omega arith)
-      ∙ get_or-set_same words at e.page.0 0 (omega arith) in
-      let loaded : get_or after (at + 1) 0 ≡ e.loaded.0 =
-      same (at + 1) (omega arith)
-      ∙ get_or-set_other three (at + 3) (at + 1) e.earlier.0 0 (λ q. omega arith)
-      ∙ get_or-set_other two (at + 2) (at + 1) e.last.0 0 (λ q. omega arith)
-      ∙ get_or-set_same one (at + 1) e.loaded.0 0 (omega (arith, l1)) in
-      let last : get_or after (at + 2) 0 ≡ e.last.0 =
-      same (at + 2) (omega arith)
-      ∙ get_or-set_other three (at + 3) (at + 2) e.earlier.0 0 (λ q. omega arith)
-      ∙ get_or-set_same two (at + 2) e.last.0 0 (omega (arith, l2)) in
-      let earlier : get_or after (at + 3) 0 ≡ e.earlier.0 = same (at + 3) (omega arith) ∙ get_or-set_same three (at + 3) e.earlier.0 0 (omega (arith, l3)) in
+      let page : get_or after at 0 ≡ e.page.0 = same at (omega arith) ∙ grind (arith, common_steps) in
+      let loaded : get_or after (at + 1) 0 ≡ e.loaded.0 = same (at + 1) (omega arith) ∙ grind (arith, common_steps) in
+      let last : get_or after (at + 2) 0 ≡ e.last.0 = same (at + 2) (omega arith) ∙ grind (arith, common_steps) in
+      let earlier : get_or after (at + 3) 0 ≡ e.earlier.0 = same (at + 3) (omega arith) ∙ grind (arith, common_steps) in
       rw (page, loaded, last, earlier) refl
 
 pub entry_layout : Layout 4 entry_from put_entry
-entry_layout =
-    record {
-      same_length = λ at e words. length-set (three at e words) (at + 3) e.earlier.0 ∙ (three_length at e words).2;
-      others_stay = entry_stay;
-      back = λ at e words after fits same. entry_back at e words after fits same;
-    }
+entry_layout = record { same_length = entry_length; others_stay = entry_stay; back = entry_back }
 
 entry_again : (words : List ℕ) (at : ℕ) → at + 4 ≤ length words → put_entry at (entry_from words at) words ≡ words
-entry_again words at fits =
-    ap (λ (ws : List ℕ). set (set (set ws (at + 1) (get_or words (at + 1) 0)) (at + 2) (get_or words (at + 2) 0)) (at + 3) (get_or words (at + 3) 0)) (set-get_or words at 0)
-    ∙ ap (λ (ws : List ℕ). set (set ws (at + 2) (get_or words (at + 2) 0)) (at + 3) (get_or words (at + 3) 0)) (set-get_or words (at + 1) 0)
-    ∙ ap (λ (ws : List ℕ). set ws (at + 3) (get_or words (at + 3) 0)) (set-get_or words (at + 2) 0)
-    ∙ set-get_or words (at + 3) 0
+entry_again words at fits = simp set-get_or
 
 -- ---- rule, frames and clock
 
 module _ (words : List ℕ) (a b c : ℕ) where
   head_length : length (put_head a b c words) ≡ length words
-  head_length = length-set (set (set words 0 a) 1 b) 2 c ∙ length-set (set words 0 a) 1 b ∙ length-set words 0 a
+  head_length = grind (arith, common_steps)
 
   head_stay : (i : ℕ) → map_place ≤ i → get_or (put_head a b c words) i 0 ≡ get_or words i 0
-  head_stay i h =
-      get_or-set_other (set (set words 0 a) 1 b) 2 i c 0 (λ e. omega arith)
-      ∙ get_or-set_other (set words 0 a) 1 i b 0 (λ e. omega arith)
-      ∙ get_or-set_other words 0 i a 0 (λ e. omega arith)
+  head_stay i h = grind (arith, common_steps)
 
   head_back : map_place ≤ length words → (get_or (put_head a b c words) 0 0 ≡ a) × (get_or (put_head a b c words) 1 0 ≡ b) × (get_or (put_head a b c words) 2 0 ≡ c)
-  head_back fits =
-      let one = set words 0 a in
-      let two = set one 1 b in
-      let l1 : length one ≡ length words = length-set words 0 a in
-      let l2 : length two ≡ length words = length-set one 1 b ∙ l1 in (
-        get_or-set_other two 2 0 c 0 (λ e. omega arith) ∙ get_or-set_other one 1 0 b 0 (λ e. omega arith) ∙ get_or-set_same words 0 a 0 (omega arith),
-        get_or-set_other two 2 1 c 0 (λ e. omega arith) ∙ get_or-set_same one 1 b 0 (omega (arith, l1)),
-        get_or-set_same two 2 c 0 (omega (arith, l2)),
-      )
+  head_back fits = (grind (arith, common_steps), grind (arith, common_steps), grind (arith, common_steps))
 
 head_again : (words : List ℕ) → put_head (get_or words 0 0) (get_or words 1 0) (get_or words 2 0) words ≡ words
-head_again words =
-    ap (λ (ws : List ℕ). set (set ws 1 (get_or words 1 0)) 2 (get_or words 2 0)) (set-get_or words 0 0)
-    ∙ ap (λ (ws : List ℕ). set ws 2 (get_or words 2 0)) (set-get_or words 1 0)
-    ∙ set-get_or words 2 0
+head_again words = simp set-get_or
 
 -- ---- the record in words that are long enough
 

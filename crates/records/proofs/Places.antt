@@ -2,7 +2,7 @@
 --
 -- In order: a word of the map and its halves; rule, frames and clock; the frames' bits; the entries.
 -- Assumes nothing.
-use mathlib.Core.Path.{◌≡◌, refl, sym, ap, ◌∙◌}
+use mathlib.Core.Path.{◌≡◌, sym, ap, ◌∙◌}
 use mathlib.Core.Bool.{false}
 use mathlib.Core.List.{List}
 use Prim.Native.Nat.{ℕ, zero, suc, ◌+◌, ◌*◌, ◌/◌, ◌%◌, ◌^◌, ◌≤◌, ◌<◌}
@@ -18,20 +18,9 @@ use Rattle.paging.specs.declared.Entry.{Entry}
 use Rattle.occupancy.specs.Map.{word_bits, map_words, bits_of}
 use Rattle.occupancy.proofs.Bits.{bit_is}
 use Rattle.cache.specs.declared.Cache.{Cache}
-use Rattle.records.specs.Records.{map_place, entries_place, record_length, list_from, word_from, map_from, entry_from, record_in, record_of}
+use Rattle.records.specs.Records.{map_place, entries_place, record_length, word_from, map_from, entry_from, record_in, record_of}
 use Rattle.records.proofs.Back.{InWords, long_of}
-
--- what stands at a place of a list that is read
-list_at : {A : Type 0} (size : ℕ) (from : List ℕ → ℕ → A) (words : List ℕ) (d : A) (at count q : ℕ) → q < count → get_or (list_from size from words at count) q d ≡ from words (at + size * q)
-unfolding list_from
-list_at size from words d at zero q h = absurd (omega arith)
-list_at size from words d at (suc count) zero h = ap (from words) (omega arith)
-list_at size from words d at (suc count) (suc q) h = list_at size from words d (at + size) count q (omega arith) ∙ ap (from words) (omega arith)
-
-list_count : {A : Type 0} (size : ℕ) (from : List ℕ → ℕ → A) (words : List ℕ) (at count : ℕ) → length (list_from size from words at count) ≡ count
-unfolding list_from
-list_count size from words at zero = refl
-list_count size from words at (suc count) = ap suc (list_count size from words (at + size) count)
+use Rattle.records.proofs.Loops.{list_at, list_count}
 
 -- the low bits of a number are those of its low half
 twice : (k high : ℕ) → 2 ^ suc k * high ≡ 2 * (2 ^ k * high)

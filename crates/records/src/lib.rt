@@ -1,13 +1,16 @@
 // A cache record in words, for callers outside: rule, frames, clock, then the map, each of its words as two, low half first, then page, loaded, last, earlier of each entry.
-// Fewer words than that hold no record: they are read as the blank one, and nothing is put into them.
+// Fewer words than that hold no record: they are read as the blank one, and nothing is put into them. No Option: so the clauses say (record_of, record_into).
+// A place in words comes beside the words, as in the clauses (word_from, put_entry ..), which also say how many words there must be; so what asks it is private.
 #![tactic(auto)]
 
 ghost use Rattle.std.specs.Prelude.{◌≡◌, ◌+◌, ◌≤◌, ◌<◌, length};
-ghost use Rattle.records.specs.Records.{record_length, word_limit, word_from, map_from, entry_from, entries_from, record_of, put_head, put_word, put_map, put_entry, put_entries, record_into};
+ghost use Rattle.records.specs.Records.{record_length, word_from, map_from, entry_from, entries_from, record_of, put_head, put_word, put_map, put_entry, put_entries, record_into};
 
 use cache::Cache;
 use paging::{Entry, Moment, Page};
+use std::array;
 
+// As the record's type has it, in the type of a length.
 const ENTRIES: usize = Cache::FRAMES as usize;
 
 // Where the map begins, and where the entries.
@@ -18,32 +21,20 @@ const ENTRIES_AT: usize = MAP_AT + 2 * occupancy::WORDS;
 // How many words a record takes: 1,035.
 pub const WORDS: usize = ENTRIES_AT + 4 * ENTRIES;
 
-// 2 to the 32: what the high half of a word of the map counts.
-const HIGH: u64 = 4294967296;
-
-fn wide(half: u32) -> u64
-    ensures { (result ≡ half) × (result < word_limit) }
-{
-    half as u64
-}
-
 // A word of the map, low half first.
 fn word_from(words: &[u32], at: usize) -> u64
     requires { at + 2 ≤ length words.now }
     ensures { result ≡ word_from words.now at }
 {
-    wide(words[at]) + HIGH * wide(words[at + 1])
+    u64::from(words[at]) | u64::from(words[at + 1]) << 32
 }
 
+#[tactic(auto, unfolding(crate::specs::Records::list_from))]
 fn map_from(words: &[u32]) -> [u64; occupancy::WORDS]
     requires { record_length ≤ length words.now }
     ensures { result ≡ map_from words.now }
 {
-    let first = word_from(words, MAP_AT);
-    let second = word_from(words, MAP_AT + 2);
-    let third = word_from(words, MAP_AT + 4);
-    let fourth = word_from(words, MAP_AT + 6);
-    [first, second, third, fourth]
+    array::from_fn(|i| word_from(words, MAP_AT + 2 * i))
 }
 
 fn entry_from(words: &[u32], at: usize) -> Entry
@@ -62,31 +53,22 @@ fn entries_from(words: &[u32]) -> [Entry; ENTRIES]
     requires { record_length ≤ length words.now }
     ensures { result ≡ entries_from words.now }
 {
-    let first = entry_from(words, ENTRIES_AT);
-    // The first everywhere, then each in its place.
-    let mut entries = [first; ENTRIES];
-    let mut i = 0;
-    while i < ENTRIES {
-        entries[i] = entry_from(words, ENTRIES_AT + 4 * i);
-        i += 1;
-    }
-    entries
+    array::from_fn(|i| entry_from(words, ENTRIES_AT + 4 * i))
 }
 
+#[tactic(auto, unfolding(crate::specs::Records::record_of, crate::specs::Records::record_in))]
 pub fn record_of(words: &[u32]) -> Cache
     ensures { result ≡ record_of words.now }
 {
     if words.len() < WORDS {
         return Cache::blank();
     }
-    let map = map_from(words);
-    let entries = entries_from(words);
     Cache {
         rule: words[0],
         frames: words[1],
         clock: words[2],
-        map: map,
-        entries: entries,
+        map: map_from(words),
+        entries: entries_from(words),
     }
 }
 
@@ -99,23 +81,22 @@ fn put_head(words: &mut [u32], rule: u32, frames: u32, clock: u32)
     words[2] = clock;
 }
 
-// A word of the map, low half first.
+// A word of the map, low half first. With a mask, as a cast may lose nothing.
 fn put_word(words: &mut [u32], at: usize, word: u64)
     requires { at + 2 ≤ length words.old }
     ensures { words.new ≡ put_word at word words.old }
 {
-    words[at] = (word % HIGH) as u32;
-    words[at + 1] = (word / HIGH) as u32;
+    words[at] = (word & 0xffff_ffff) as u32;
+    words[at + 1] = (word >> 32) as u32;
 }
 
-fn put_map(map: [u64; occupancy::WORDS], words: &mut [u32])
+// One loop for this and put_entries would take the size and the function that puts: no plainer.
+fn put_map(map: &[u64; occupancy::WORDS], words: &mut [u32])
     requires { record_length ≤ length words.old }
-    ensures { words.new ≡ put_map map words.old }
+    ensures { words.new ≡ put_map map.now words.old }
 {
-    let mut i = 0;
-    while i < occupancy::WORDS {
-        put_word(words, MAP_AT + 2 * i, map[i]);
-        i += 1;
+    for (i, word) in map.iter().enumerate() {
+        put_word(words, MAP_AT + 2 * i, *word);
     }
 }
 
@@ -129,17 +110,16 @@ fn put_entry(words: &mut [u32], at: usize, entry: Entry)
     words[at + 3] = entry.earlier.0;
 }
 
-fn put_entries(cache: Cache, words: &mut [u32])
+fn put_entries(entries: &[Entry; ENTRIES], words: &mut [u32])
     requires { record_length ≤ length words.old }
-    ensures { words.new ≡ put_entries cache.entries words.old }
+    ensures { words.new ≡ put_entries entries.now words.old }
 {
-    let mut i = 0;
-    while i < ENTRIES {
-        put_entry(words, ENTRIES_AT + 4 * i, cache.entries[i]);
-        i += 1;
+    for (i, entry) in entries.iter().enumerate() {
+        put_entry(words, ENTRIES_AT + 4 * i, *entry);
     }
 }
 
+#[tactic(auto, unfolding(crate::specs::Records::record_into, crate::specs::Records::record_over))]
 pub fn record_into(cache: Cache, words: &mut [u32])
     ensures { words.new ≡ record_into cache words.old }
 {
@@ -147,7 +127,6 @@ pub fn record_into(cache: Cache, words: &mut [u32])
         return;
     }
     put_head(words, cache.rule, cache.frames, cache.clock);
-    let map = cache.map;
-    put_map(map, words);
-    put_entries(cache, words);
+    put_map(&cache.map, words);
+    put_entries(&cache.entries, words);
 }

@@ -1,5 +1,6 @@
 -- Laws of the report of a file: what a reading into 8,000 words for each list gives it.
 -- Assumes nothing.
+use Rattle.std.specs.Prelude.{Ok, Err}
 use mathlib.Core.Path.{◌≡◌, sym, ap, ap₂, ◌∙◌}
 use mathlib.Core.List.{List}
 use Prim.Native.Nat.{ℕ, ◌+◌, ◌≤◌}
@@ -8,20 +9,18 @@ use lib.ListN.{length, take, length-take}
 use Rattle.paging.specs.Calls.{request_limit}
 use Rattle.paging.specs.declared.Refusal.{Refusal}
 use Rattle.words.proofs.Bytes.{length_words}
-use Rattle.reading.specs.Reading.{request_count, plan_place, plan_count, file_requests, file_plan, sizes_of, read_of}
+use Rattle.reading.specs.Reading.{request_count, plan_place, plan_count, file_requests, file_plan, sizes_of, read_of, ReadAnswer}
 use Rattle.reading.specs.declared.Sizes.{Sizes}
-use Rattle.reading.specs.declared.ReadAnswer.{ReadAnswer}
-use Rattle.reading.specs.declared.ReadAnswer.TheVariants.{Bundle, Refused}
 use Rattle.bundle.specs.Reading.{requests_left, plan_left}
 use Rattle.bundle.proofs.Laws.{read_words_lem}
 use Rattle.text.specs.Lines.{refused_line}
 use Rattle.reporting.specs.Report.{lines_of, text_by, report_of}
 
-pub text_refused : (file : List ℕ) (refusal : Refusal) → read_of file request_limit request_limit ≡ Refused refusal → refused_line refusal ≡ report_of file
+pub text_refused : (file : List ℕ) (refusal : Refusal) → read_of file request_limit request_limit ≡ Err refusal → refused_line refusal ≡ report_of file
 unfolding report_of
 text_refused file refusal e = sym (ap (λ (answer : ReadAnswer). text_by answer (file_requests file) (file_plan file)) e)
 
-module _ (file : List ℕ) (sizes : Sizes) (e : read_of file request_limit request_limit ≡ Bundle sizes) (requests plan : List ℕ)
+module _ (file : List ℕ) (sizes : Sizes) (e : read_of file request_limit request_limit ≡ Ok sizes) (requests plan : List ℕ)
     (r : length requests ≡ request_limit) (p : length plan ≡ request_limit) where
   fronts : (sizes_of file ≡ sizes)
       × (take sizes.requests (requests_left file requests (length plan)) ≡ file_requests file)

@@ -1,5 +1,6 @@
 -- No report is longer than 256 bytes: the room that the program lends is never too small.
 -- Assumes nothing.
+use Rattle.std.specs.Prelude.{Ok, Err}
 use mathlib.Core.Bool.{Bool, true, false}
 use mathlib.Core.List.{List, [], ◌∷◌, ◌++◌}
 use Prim.Native.Nat.{ℕ, ◌+◌, ◌/◌, ◌%◌, ◌≤◌}
@@ -9,17 +10,13 @@ use lib.Dec.{eqb, ltb}
 use lib.ListN.{length, length-append}
 use Rattle.paging.specs.Lists.{pick}
 use Rattle.paging.specs.Calls.{request_limit}
-use Rattle.paging.specs.Refusals.{table}
+use Rattle.paging.specs.Refusals.{table, Answer}
 use Rattle.paging.specs.declared.Refusal.{Refusal}
-use Rattle.paging.specs.declared.Answer.{Answer}
-use Rattle.paging.specs.declared.Answer.TheVariants.{Faults, Refused}
 use Rattle.calls.specs.Answers.{answer_numbers}
 use Rattle.counts.specs.Counts.{count_of}
 use Rattle.plans.specs.Check.{check_of}
-use Rattle.reading.specs.Reading.{read_of, file_requests, file_plan}
+use Rattle.reading.specs.Reading.{read_of, file_requests, file_plan, ReadAnswer}
 use Rattle.reading.specs.declared.Sizes.{Sizes}
-use Rattle.reading.specs.declared.ReadAnswer.{ReadAnswer}
-use Rattle.reading.specs.declared.ReadAnswer.TheVariants as read
 use Rattle.text.specs.Decimal.{digit_at, decimal}
 use Rattle.text.specs.Lines.{pair, refused_line}
 use Rattle.reporting.specs.Report.{requests_word, claim_word, none_word, claimed, claim_line, rules_text, lines_of, text_by, report_of}
@@ -62,8 +59,8 @@ refused_short : (refusal : Refusal) → length (refused_line refusal) ≤ 33
 refused_short refusal = omega (arith, pair_short (table refusal).number (32 ∷ 97 ∷ 116 ∷ 32 ∷ []) (table refusal).place)
 
 claimed_short : (m : ℕ) (answer : Answer) → length (claimed m answer) ≤ 33
-claimed_short m (Faults faults) = omega (arith, pair_short m (32 ∷ []) faults)
-claimed_short m (Refused refusal) = refused_short refusal
+claimed_short m (Ok faults) = omega (arith, pair_short m (32 ∷ []) faults)
+claimed_short m (Err refusal) = refused_short refusal
 
 claim_short : (sizes : Sizes) (trace plan : List ℕ) → length (claim_line sizes trace plan) ≤ 39
 claim_short sizes trace plan = go (eqb sizes.planned 0)
@@ -94,8 +91,8 @@ lines_short sizes trace plan =
     joined (first ++ rules_text sizes trace) (claim_line sizes trace plan) 152 39 (joined first (rules_text sizes trace) 20 132 f (rules_short sizes trace)) (claim_short sizes trace plan)
 
 text_short : (answer : ReadAnswer) (trace plan : List ℕ) → length (text_by answer trace plan) ≤ 256
-text_short (read.Bundle sizes) trace plan = le_trans (lines_short sizes trace plan) (omega arith)
-text_short (read.Refused refusal) trace plan = le_trans (refused_short refusal) (omega arith)
+text_short (Ok sizes) trace plan = le_trans (lines_short sizes trace plan) (omega arith)
+text_short (Err refusal) trace plan = le_trans (refused_short refusal) (omega arith)
 
 pub report_short : (file : List ℕ) → length (report_of file) ≤ 256
 unfolding report_of

@@ -2,18 +2,15 @@
 --
 -- In order: the words of the report; its lines; the report.
 -- Assumes nothing.
-use Rattle.std.specs.Prelude.{List, [], ◌∷◌, ◌++◌, ℕ, eqb}
+use Rattle.std.specs.Prelude.{List, [], ◌∷◌, ◌++◌, ℕ, eqb, Ok, Err}
 use Rattle.paging.specs.Lists.{pick}
 use Rattle.paging.specs.Calls.{request_limit}
-use Rattle.paging.specs.declared.Answer.{Answer}
-use Rattle.paging.specs.declared.Answer.TheVariants.{Faults, Refused}
+use Rattle.paging.specs.Refusals.{Answer}
 use Rattle.calls.specs.Answers.{answer_numbers}
 use Rattle.counts.specs.Counts.{count_of}
 use Rattle.plans.specs.Check.{check_of}
-use Rattle.reading.specs.Reading.{read_of, file_requests, file_plan}
+use Rattle.reading.specs.Reading.{read_of, file_requests, file_plan, ReadAnswer}
 use Rattle.reading.specs.declared.Sizes.{Sizes}
-use Rattle.reading.specs.declared.ReadAnswer.{ReadAnswer}
-use Rattle.reading.specs.declared.ReadAnswer.TheVariants as read
 use Rattle.text.specs.Decimal.{decimal}
 use Rattle.text.specs.Lines.{pair, refused_line, line}
 
@@ -55,8 +52,8 @@ rule_line name rule frames trace = line name frames (answer_numbers (count_of ru
 
 -- what Check answers to the plan
 abbrev pub claimed : ℕ → Answer → List ℕ
-claimed m (Faults faults) = pair m (32 ∷ []) faults
-claimed m (Refused refusal) = refused_line refusal
+claimed m (Ok faults) = pair m (32 ∷ []) faults
+claimed m (Err refusal) = refused_line refusal
 
 -- the plan's line; a plan of no words is one that didn't come
 abbrev pub claim_line : Sizes → List ℕ → List ℕ → List ℕ
@@ -78,8 +75,8 @@ lines_of sizes trace plan = requests_word ++ decimal sizes.requests ++ (10 ∷ [
 
 -- the whole text, or the one line of a refused file
 abbrev pub text_by : ReadAnswer → List ℕ → List ℕ → List ℕ
-text_by (read.Bundle sizes) trace plan = lines_of sizes trace plan
-text_by (read.Refused refusal) trace plan = refused_line refusal
+text_by (Ok sizes) trace plan = lines_of sizes trace plan
+text_by (Err refusal) trace plan = refused_line refusal
 
 unfoldable pub report_of : List ℕ → List ℕ
 report_of file = text_by (read_of file request_limit request_limit) (file_requests file) (file_plan file)

@@ -4,79 +4,88 @@
 
 ghost use Rattle.std.specs.Prelude.{◌≡◌, length, take};
 ghost use Rattle.paging.specs.Services.{laid};
-ghost use Rattle.text.specs.Devices.{Put};
+ghost use Rattle.text.specs.Devices.{Wrote};
 ghost use Rattle.reporting.specs.Report.{rule_line, claimed, claim_line, rules_text, lines_of, report_of};
 
-use paging::Answer;
-use reading::{ReadAnswer, Sizes};
+use calls::AnswerNumbers;
+use paging::Refusal;
+use reading::Sizes;
+use text::Writer;
 
-fn rule_line(
-    room: &mut [u8],
-    at: usize,
-    name: &[u8],
-    rule: u32,
-    frames: u32,
-    trace: &[u32],
-) -> usize
-    ensures { Put at (rule_line name.now rule frames trace.now) room.old result room.new }
+fn rule_line(out: &mut Writer<'_>, name: &[u8], rule: u32, frames: u32, trace: &[u32])
+    ensures { Wrote out.old (rule_line name.now rule frames trace.now) out.new }
 {
-    let told = calls::answer_numbers(counts::count(rule, frames, trace));
-    text::line(room, at, name, frames, told.faults)
+    let told = AnswerNumbers::from(counts::count(rule, frames, trace));
+    out.line(name, frames, told.faults);
 }
 
-fn rules_text(room: &mut [u8], at: usize, sizes: Sizes, trace: &[u32]) -> usize
-    ensures { Put at (rules_text sizes trace.now) room.old result room.new }
+// The rules go by document 01's numbers, as counts::count takes them. A loop over the five is no plainer: its invariant would say each line again.
+fn rules_text(out: &mut Writer<'_>, sizes: Sizes, trace: &[u32])
+    ensures { Wrote out.old (rules_text sizes trace.now) out.new }
 {
-    let a = rule_line(room, at, b"lru ", 1, sizes.n, trace);
-    let b = rule_line(room, a, b"fifo ", 2, sizes.n, trace);
-    let c = rule_line(room, b, b"min ", 3, sizes.n, trace);
-    let d = rule_line(room, c, b"lru2 ", 4, sizes.n, trace);
-    rule_line(room, d, b"min ", 3, sizes.m, trace)
+    rule_line(out, b"lru ", 1, sizes.n, trace);
+    rule_line(out, b"fifo ", 2, sizes.n, trace);
+    rule_line(out, b"min ", 3, sizes.n, trace);
+    rule_line(out, b"lru2 ", 4, sizes.n, trace);
+    rule_line(out, b"min ", 3, sizes.m, trace);
 }
 
 // What Check answers to the plan.
-fn claimed(room: &mut [u8], at: usize, m: u32, answer: Answer) -> usize
-    ensures { Put at (claimed m answer) room.old result room.new }
+fn claimed(out: &mut Writer<'_>, m: u32, answer: Result<u32, Refusal>)
+    ensures { Wrote out.old (claimed m answer) out.new }
 {
     match answer {
-        Answer::Faults(faults) => text::two_numbers(room, at, m, b" ", faults),
-        Answer::Refused(refusal) => text::refused_line(room, at, refusal),
+        Ok(faults) => out.two_numbers(m, b" ", faults),
+        Err(refusal) => out.refused_line(refusal),
     }
 }
 
-fn claim_line(room: &mut [u8], at: usize, sizes: Sizes, trace: &[u32], plan: &[u32]) -> usize
-    ensures { Put at (claim_line sizes trace.now plan.now) room.old result room.new }
+// Sizes, trace and plan stay three parameters, as the definitions take them: a struct for two functions is no plainer.
+fn claim_line(out: &mut Writer<'_>, sizes: Sizes, trace: &[u32], plan: &[u32])
+    ensures { Wrote out.old (claim_line sizes trace.now plan.now) out.new }
 {
-    let a = text::word(room, at, b"claim ");
+    out.word(b"claim ");
+    // 0 words of a plan: none came, as document 01 says.
     if sizes.planned == 0 {
-        return text::word(room, a, b"none\n");
+        out.word(b"none\n");
+    } else {
+        claimed(out, sizes.m, judge::check(sizes.m, trace, plan));
     }
-    claimed(room, a, sizes.m, judge::check(sizes.m, trace, plan))
 }
 
-fn lines(room: &mut [u8], sizes: Sizes, trace: &[u32], plan: &[u32]) -> usize
-    ensures { Put 0 (lines_of sizes trace.now plan.now) room.old result room.new }
+fn lines(out: &mut Writer<'_>, sizes: Sizes, trace: &[u32], plan: &[u32])
+    ensures { Wrote out.old (lines_of sizes trace.now plan.now) out.new }
 {
-    let a = text::word(room, 0, b"requests ");
-    let b = text::number(room, a, sizes.requests);
-    let c = text::put(room, b, 10);
-    let d = rules_text(room, c, sizes, trace);
-    claim_line(room, d, sizes, trace, plan)
+    out.word(b"requests ");
+    out.number(sizes.requests);
+    out.put(b'\n');
+    rules_text(out, sizes, trace);
+    claim_line(out, sizes, trace, plan);
+}
+
+// The whole text, or the one line of a refused file.
+fn text_of(out: &mut Writer<'_>, file: &[u8])
+    ensures { Wrote out.old (report_of file.now) out.new }
+{
+    // No heap: each list has room for as many words as a file may have, and its front is used.
+    let mut requests = [0u32; calls::REQUESTS];
+    let mut plan = [0u32; calls::REQUESTS];
+    match bundle::read(file, &mut requests, &mut plan) {
+        Err(refused) => out.refused_line(refused),
+        Ok(sizes) => lines(
+            out,
+            sizes,
+            &requests[..sizes.requests as usize],
+            &plan[..sizes.planned as usize],
+        ),
+    }
 }
 
 // The report of a file at the front of the room, as much of it as there is room for, other bytes as they were; answers the bytes put.
 pub fn report(file: &[u8], room: &mut [u8]) -> usize
     ensures { (result ≡ length (take (length room.old) (report_of file.now))) × (room.new ≡ laid (report_of file.now) room.old) }
 {
-    let mut requests = [0u32; calls::REQUESTS];
-    let mut plan = [0u32; calls::REQUESTS];
-    match bundle::read(file, &mut requests, &mut plan) {
-        ReadAnswer::Refused(refusal) => text::refused_line(room, 0, refusal),
-        ReadAnswer::Bundle(sizes) => lines(
-            room,
-            sizes,
-            &requests[..sizes.requests as usize],
-            &plan[..sizes.planned as usize],
-        ),
-    }
+    let mut out = Writer::new(room, 0);
+    text_of(&mut out, file);
+    out.position()
 }

@@ -1,7 +1,8 @@
 -- Laws of `all`, `pairwise` and `mem`, as equations of truth values.
 -- Assumes nothing.
 use mathlib.Core.Path.{◌≡◌, refl, sym, ap, ◌∙◌}
-use mathlib.Core.Bool.{Bool, true, false}
+use Rattle.std.specs.List.{list_all}
+use mathlib.Core.Bool.{Bool, true, false, ◌&&◌}
 use mathlib.Core.List.{List, [], ◌∷◌, ◌++◌, map}
 use Prim.Native.Nat.{ℕ, zero, suc}
 use native.Mathlib.Decide.{ℕ_discrete}
@@ -49,6 +50,16 @@ module _ {A : Type 0} where
   unfolding all
   all_both f g [] = refl
   all_both f g (x ∷ xs) = rw (all_both f g xs) (both_across (f x) (g x) (all f xs) (all g xs))
+
+  -- the library's word
+  pub list_all_is : (f : A → Bool) (xs : List A) → list_all f xs ≡ all f xs
+  unfolding all
+  list_all_is f [] = refl
+  list_all_is f (x ∷ xs) = rw (list_all_is f xs) (go (f x))
+    where
+      go : (b : Bool) → b && all f xs ≡ pick b (all f xs) false
+      go true = refl
+      go false = refl
 
   pub all_append : (f : A → Bool) (xs ys : List A) → all f (xs ++ ys) ≡ both (all f xs) (all f ys)
   unfolding all

@@ -8,8 +8,8 @@ use native.Mathlib.Omega.{arith}
 use native.Mathlib.Decide.{ℕ_discrete}
 use native.Mathlib.Numerals.{add-one}
 use lib.Dec.{eqb, ltb, leb}
-use lib.ListN.{length, get_or, set, replicate, length-set, length-replicate}
-use lib.Seq.{get_or-set_same, get_or-set_other, slice, slice-cons, slice_empty}
+use lib.ListN.{length, get_or, set, drop, replicate, drop_of_length-le, length-set, length-replicate}
+use lib.Seq.{get_or-set_same, get_or-set_other, drop-cons}
 use borrow.Author.Tests.{leb-true, ltb-true, eqb-true, eqb-false, eq-eqb, ne_eqb}
 use Rattle.paging.specs.Lists.{pick, not, both, any, all, mem}
 use Rattle.paging.specs.Rules.{mark, once}
@@ -138,15 +138,15 @@ scan_is clock seen (e ∷ es) h = go (entry_ok clock e) refl (scan_is clock (not
     go false q ih = refl
 
 -- one entry, then the rest
-pub scan_on : (clock : ℕ) (seen : List Bool) (es : List Entry) (held i : ℕ) → i < held → held ≤ length es
-    → scan clock seen (slice i held es)
-    ≡ both (entry_ok clock (entry_at es i)) (both (unseen seen (entry_at es i)) (scan clock (noted seen (entry_at es i)) (slice (i + 1) held es)))
+pub scan_on : (clock : ℕ) (seen : List Bool) (es : List Entry) (i : ℕ) → i < length es
+    → scan clock seen (drop i es)
+    ≡ both (entry_ok clock (entry_at es i)) (both (unseen seen (entry_at es i)) (scan clock (noted seen (entry_at es i)) (drop (i + 1) es)))
 unfolding scan
-scan_on clock seen es held i h k = rw (slice-cons i held es zero_entry h k, add-one i)
+scan_on clock seen es i h = rw (drop-cons es i zero_entry h, add-one i)
 
-pub scan_end : (clock : ℕ) (seen : List Bool) (es : List Entry) (held i : ℕ) → i ≡ held → scan clock seen (slice i held es) ≡ true
+pub scan_end : (clock : ℕ) (seen : List Bool) (es : List Entry) (i : ℕ) → length es ≤ i → scan clock seen (drop i es) ≡ true
 unfolding scan
-scan_end clock seen es held i h = rw (h, slice_empty held es)
+scan_end clock seen es i h = rw (drop_of_length-le es h)
 
 -- the whole walk, which starts with no moment seen
 pub scan_entries : (clock : ℕ) (es : List Entry) → clock ≤ request_limit → scan clock (replicate request_limit false) es ≡ met (entry_conditions clock es)

@@ -3,58 +3,44 @@
 // Everything here that asks something of its caller is private.
 #![tactic(auto)]
 
-ghost use Rattle.std.specs.Prelude.{◌≡◌, ◌≤◌, take, drop};
+ghost use Rattle.std.specs.Prelude.{◌≡◌, ◌≤◌, take};
 ghost use Rattle.paging.specs.Lists.{mem};
 ghost use Rattle.paging.specs.Walk.{pages};
 ghost use Rattle.paging.specs.Calls.{frame_limit, request_limit};
 ghost use Rattle.soundness.specs.Sound.{met, feedable, size_conditions, distinct_pages, entry_conditions, all_marks, blank_from, sound_parts};
 ghost use Rattle.soundness.specs.Devices.Scan.{entry_ok, Below, unseen, noted};
 
-use paging::Entry;
+use paging::{Entry, Moment, Page};
 
+// As `calls` has it, in the type of a clock.
 const REQUESTS: u32 = calls::REQUESTS as u32;
 
-// Whether a record may have the rule.
+// Whether a record may have the rule. It is a number, since any may stand in a record's words, and the record is then told as unsound.
 pub fn feedable(rule: u32) -> bool
     ensures { result ≡ feedable rule }
 {
-    if rule == 1 {
-        return true;
-    }
-    if rule == 2 {
-        return true;
-    }
-    rule == 4
+    matches!(rule, 1 | 2 | 4)
 }
 
 // Rule, frames, clock and held.
+#[tactic(auto, unfolding(paging::specs::Lists::all))]
 fn sizes_ok(rule: u32, frames: u32, clock: u32, held: u32) -> bool
     ensures { result ≡ met (size_conditions rule frames clock held) }
 {
-    if !feedable(rule) {
-        return false;
-    }
-    if calls::outside(frames) {
-        return false;
-    }
-    if REQUESTS < clock {
-        return false;
-    }
-    if frames < held {
-        return false;
-    }
-    held <= clock
+    feedable(rule)
+        && !calls::outside(frames)
+        && clock <= REQUESTS
+        && held <= frames
+        && held <= clock
 }
 
-// The pages side by side, to be lent.
-fn pages(entries: [Entry; calls::FRAMES as usize]) -> [u32; calls::FRAMES as usize]
-    ensures { result ≡ pages entries }
+// The pages side by side, to be lent. By a loop, since `map` of an array makes the whole test of a full record take a quarter longer.
+fn pages(entries: &[Entry; entries::LENGTH]) -> [u32; entries::LENGTH]
+    ensures { result ≡ pages entries.now }
 {
-    let mut words = [0u32; calls::FRAMES as usize];
-    let mut i = 0;
-    while i < calls::FRAMES as usize {
-        words[i] = entries[i].page.0;
-        i += 1;
+    let mut words = [0; entries::LENGTH];
+    for (i, e) in entries.iter().enumerate() {
+        words[i] = e.page.0;
     }
     words
 }
@@ -63,31 +49,21 @@ fn pages(entries: [Entry; calls::FRAMES as usize]) -> [u32; calls::FRAMES as usi
 fn among(words: &[u32], p: u32) -> bool
     ensures { result ≡ mem p words.now }
 {
-    let mut found = false;
-    let mut i = 0;
-    while i < words.len() {
-        if words[i] == p {
-            found = true;
-        }
-        i += 1;
-    }
-    found
+    words.iter().fold(false, |found, word| found | (*word == p))
 }
 
 // Whether the pages in use are distinct.
-fn pages_apart(entries: [Entry; calls::FRAMES as usize], held: u32) -> bool
+fn pages_apart(entries: &[Entry; entries::LENGTH], held: u32) -> bool
     requires { held ≤ frame_limit }
-    ensures { result ≡ distinct_pages (take held entries) }
+    ensures { result ≡ distinct_pages (take held entries.now) }
 {
-    let end = held as usize;
     let words = pages(entries);
-    let mut i = 0;
-    while i < end {
-        let p = words[i];
-        i += 1;
-        if among(&words[i..end], p) {
+    let mut rest = &words[..held as usize];
+    while let Some((p, after)) = rest.split_first() {
+        if among(after, *p) {
             return false;
         }
+        rest = after;
     }
     true
 }
@@ -96,71 +72,49 @@ fn pages_apart(entries: [Entry; calls::FRAMES as usize], held: u32) -> bool
 fn entry_ok(e: Entry, clock: u32) -> bool
     ensures { result ≡ entry_ok clock e }
 {
-    if e.page.0 == paging::MARK {
-        return false;
-    }
-    if e.last.0 < e.loaded.0 {
-        return false;
-    }
-    if clock <= e.last.0 {
-        return false;
-    }
-    if e.loaded.0 == e.last.0 {
-        return e.earlier.0 == paging::MARK;
-    }
-    if e.earlier.0 < e.loaded.0 {
-        return false;
-    }
-    e.earlier.0 < e.last.0
+    let earlier_fits = if e.loaded == e.last {
+        e.earlier == Moment(paging::MARK)
+    } else {
+        e.loaded <= e.earlier && e.earlier < e.last
+    };
+    e.page != Page(paging::MARK) && e.loaded <= e.last && e.last < Moment(clock) && earlier_fits
 }
 
 // Whether none of the entry's moments was seen.
+#[tactic(auto, unfolding(paging::specs::Lists::all, crate::specs::Devices::Scan::unseen))]
 fn unseen(seen: &[bool; calls::REQUESTS], e: Entry) -> bool
     requires { Below request_limit e }
     ensures { result ≡ unseen seen.now e }
 {
-    if seen[e.loaded.0 as usize] {
-        return false;
-    }
-    if seen[e.last.0 as usize] {
-        return false;
-    }
-    if e.earlier.0 == paging::MARK {
-        return true;
-    }
-    !seen[e.earlier.0 as usize]
+    !seen[e.loaded.0 as usize]
+        && !seen[e.last.0 as usize]
+        && (e.earlier == Moment(paging::MARK) || !seen[e.earlier.0 as usize])
 }
 
 // The entry's moments are seen from now on.
+#[tactic(auto, unfolding(crate::specs::Devices::Scan::noted))]
 fn note(seen: &mut [bool; calls::REQUESTS], e: Entry)
     requires { Below request_limit e }
     ensures { seen.new ≡ noted seen.old e }
 {
     seen[e.loaded.0 as usize] = true;
     seen[e.last.0 as usize] = true;
-    if e.earlier.0 != paging::MARK {
+    if e.earlier != Moment(paging::MARK) {
         seen[e.earlier.0 as usize] = true;
     }
 }
 
-// Each entry in use by itself, and no moment in two: an entry that passed the first test has its moments below the limit of requests.
-fn entries_ok(entries: [Entry; calls::FRAMES as usize], held: u32, clock: u32) -> bool
-    requires { (held ≤ frame_limit) × (clock ≤ request_limit) }
-    ensures { result ≡ met (entry_conditions clock (take held entries)) }
+// Each entry in use by itself, and no moment in two: an entry that passed the first test has its moments below the limit of requests. The moments seen are marked in an array, in fixed memory.
+fn entries_ok(in_use: &[Entry], clock: u32) -> bool
+    requires { clock ≤ request_limit }
+    ensures { result ≡ met (entry_conditions clock in_use.now) }
 {
-    let end = held as usize;
     let mut seen = [false; calls::REQUESTS];
-    let mut i = 0;
-    while i < end {
-        let e = entries[i];
-        if !entry_ok(e, clock) {
+    for e in in_use {
+        if !entry_ok(*e, clock) || !unseen(&seen, *e) {
             return false;
         }
-        if !unseen(&seen, e) {
-            return false;
-        }
-        note(&mut seen, e);
-        i += 1;
+        note(&mut seen, *e);
     }
     true
 }
@@ -168,52 +122,30 @@ fn entries_ok(entries: [Entry; calls::FRAMES as usize], held: u32, clock: u32) -
 fn all_marks(e: Entry) -> bool
     ensures { result ≡ all_marks e }
 {
-    if e.page.0 != paging::MARK {
-        return false;
-    }
-    if e.loaded.0 != paging::MARK {
-        return false;
-    }
-    if e.last.0 != paging::MARK {
-        return false;
-    }
-    e.earlier.0 == paging::MARK
+    e == entries::blank_entry()
 }
 
 // Whether every entry past those in use is all marks.
-fn rest_blank(entries: [Entry; calls::FRAMES as usize], held: u32) -> bool
-    requires { held ≤ frame_limit }
-    ensures { result ≡ blank_from (drop held entries) }
+fn rest_blank(rest: &[Entry]) -> bool
+    ensures { result ≡ blank_from rest.now }
 {
-    let mut i = held as usize;
-    while i < calls::FRAMES as usize {
-        let e = entries[i];
-        if !all_marks(e) {
-            return false;
-        }
-        i += 1;
-    }
-    true
+    rest.iter().all(|e| all_marks(*e))
 }
 
-// Whether a record of these parts is sound.
+// Whether a record of these parts is sound. The parts come one by one, as the record's type stands above, in crate `cache`.
+#[tactic(auto, using(crate::proofs::Parts::sound_by_parts, crate::proofs::Parts::sizes))]
 pub fn sound_parts(
     rule: u32,
     frames: u32,
     clock: u32,
     held: u32,
-    entries: [Entry; calls::FRAMES as usize],
+    entries: [Entry; entries::LENGTH],
 ) -> bool
     ensures { result ≡ sound_parts rule frames clock held entries }
 {
     if !sizes_ok(rule, frames, clock, held) {
         return false;
     }
-    if !pages_apart(entries, held) {
-        return false;
-    }
-    if !entries_ok(entries, held, clock) {
-        return false;
-    }
-    rest_blank(entries, held)
+    let (in_use, rest) = entries.split_at(held as usize);
+    pages_apart(&entries, held) && entries_ok(in_use, clock) && rest_blank(rest)
 }

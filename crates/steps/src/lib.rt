@@ -1,5 +1,6 @@
 // One request over a record's parts: rule, frames, the map of occupied frames, and the 256 entries.
 // It asks nothing of them; that it is document 01's step wherever they are sound is proved in crate `cache` (`served_steps`).
+// The parts come one by one, and the rule as a number, as they stand in a record, whose type is above, in crate `cache`.
 #![tactic(auto)]
 
 ghost use Rattle.std.specs.Prelude.{◌≡◌, ◌<◌, set};
@@ -7,61 +8,56 @@ ghost use Rattle.paging.specs.Calls.{frame_limit};
 ghost use Rattle.occupancy.specs.Map.{with_frame};
 ghost use Rattle.steps.specs.Devices.Step.{hit_step, full_step, load_step, stepped};
 
-use paging::{Entry, Found, Frame, Moment, Outcome, Page};
+use paging::{Entry, Frame, Moment, Outcome, Page};
 
-// What a request came to, and the map and the entries after it.
-#[derive(Clone, Copy)]
+// What a request came to, and the map and the entries after it: arrays, as a record has them, in fixed memory.
+#[derive(Clone, Copy, Debug, PartialEq, Eq)]
 pub struct After {
     pub outcome: Outcome,
     pub map: [u64; occupancy::WORDS],
-    pub entries: [Entry; calls::FRAMES as usize],
+    pub entries: [Entry; entries::LENGTH],
 }
 
-// The entries with one written into a frame; a frame past the last is none.
+// The entries with one written into a frame; a frame past the last is none. Tested by hand, since what `get_mut` leaves of an array that came by value isn't known to a proof.
 fn put(
-    entries: [Entry; calls::FRAMES as usize],
+    mut entries: [Entry; entries::LENGTH],
     frame: Frame,
     entry: Entry,
-) -> [Entry; calls::FRAMES as usize]
+) -> [Entry; entries::LENGTH]
     ensures { result ≡ set entries frame.0 entry }
 {
     let at = frame.0 as usize;
-    let mut after = entries;
-    if at < calls::FRAMES as usize {
-        after[at] = entry;
+    if at < entries.len() {
+        entries[at] = entry;
     }
-    after
+    entries
 }
 
-// The map with a frame's bit set; a frame past the last has none.
-fn with_frame(map: [u64; occupancy::WORDS], frame: Frame) -> [u64; occupancy::WORDS]
+// The map with a frame's bit set; a frame past the last has none. Tested by hand, as in `put`.
+fn with_frame(mut map: [u64; occupancy::WORDS], frame: Frame) -> [u64; occupancy::WORDS]
     ensures { result ≡ with_frame map frame.0 }
 {
     let at = (frame.0 / occupancy::BITS) as usize;
-    let bit: u64 = 1 << (frame.0 % occupancy::BITS);
-    let mut after = map;
-    if at < occupancy::WORDS {
-        after[at] = map[at] | bit;
+    if at < map.len() {
+        map[at] |= 1 << (frame.0 % occupancy::BITS);
     }
-    after
+    map
 }
 
 // The page is held in a frame: its entry is renewed.
 fn hit(
     map: [u64; occupancy::WORDS],
-    entries: [Entry; calls::FRAMES as usize],
+    entries: [Entry; entries::LENGTH],
     frame: Frame,
     now: Moment,
 ) -> After
     requires { frame.0 < frame_limit }
     ensures { result ≡ hit_step map entries frame.0 now.0 }
 {
-    let at = frame.0 as usize;
-    let old = entries[at];
-    let entry = entries::renewed(old, now);
+    let entry = entries::renewed(entries[frame.0 as usize], now);
     After {
         outcome: Outcome::Hit,
-        map: map,
+        map,
         entries: put(entries, frame, entry),
     }
 }
@@ -71,18 +67,16 @@ fn replace(
     rule: u32,
     held: u32,
     map: [u64; occupancy::WORDS],
-    entries: [Entry; calls::FRAMES as usize],
+    entries: [Entry; entries::LENGTH],
     entry: Entry,
 ) -> After
     ensures { result ≡ full_step rule held map entries entry }
 {
     let frame = entries::least(entries, held, rule);
-    let at = frame.0 as usize;
-    let old = entries[at];
-    let dropped = old.page;
+    let dropped = entries[frame.0 as usize].page;
     After {
         outcome: Outcome::Dropped(dropped),
-        map: map,
+        map,
         entries: put(entries, frame, entry),
     }
 }
@@ -93,7 +87,7 @@ fn load(
     frames: u32,
     held: u32,
     map: [u64; occupancy::WORDS],
-    entries: [Entry; calls::FRAMES as usize],
+    entries: [Entry; entries::LENGTH],
     entry: Entry,
 ) -> After
     ensures { result ≡ load_step rule frames held map entries entry }
@@ -115,15 +109,15 @@ pub fn step(
     frames: u32,
     now: Moment,
     map: [u64; occupancy::WORDS],
-    entries: [Entry; calls::FRAMES as usize],
+    entries: [Entry; entries::LENGTH],
     page: Page,
 ) -> After
     ensures { result ≡ stepped rule frames now.0 page.0 map entries }
 {
     let held = occupancy::held(map);
     match entries::find(entries, held, page) {
-        Found::At(frame) => hit(map, entries, frame, now),
-        Found::Absent => load(
+        Some(frame) => hit(map, entries, frame, now),
+        None => load(
             rule,
             frames,
             held,

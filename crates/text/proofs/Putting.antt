@@ -1,23 +1,16 @@
 -- Laws of bytes put into a room: one byte, some bytes behind others, and a whole text from the front of the room.
 -- Assumes nothing.
-use mathlib.Core.Path.{◌≡◌, refl, sym, ap, ap₂, subst, ◌∙◌}
+use mathlib.Core.Path.{◌≡◌, refl, sym, ap₂, subst, ◌∙◌}
 use mathlib.Core.List.{List, [], ◌∷◌, ◌++◌}
-use Prim.Native.Nat.{ℕ, suc, ◌+◌, ◌/◌, ◌%◌, ◌≤◌, ◌<◌}
+use Prim.Native.Nat.{ℕ, suc, ◌+◌, ◌≤◌, ◌<◌}
 use native.Mathlib.Omega.{arith}
-use lib.ListN.{length, get_or, take, set, length-append, length-set}
+use lib.ListN.{length, get_or, take, set, length-append}
 use lib.Seq.{take-suc, append_snoc, set_at, set_out, drop-nil, take-nil}
 use borrow.Author.Tests.{lt-ltb, le-ltb}
 use Rattle.paging.specs.Services.{laid}
 use Rattle.text.specs.Putting.{behind, place_behind, room_behind}
-use Rattle.text.specs.Devices.{Put}
-use Rattle.text.specs.Decimal.{digit_at}
-
--- the two equalities of a promise, as one
-pub heard : (at : ℕ) (bytes room : List ℕ) (place : ℕ) (left : List ℕ) → (place ≡ place_behind at bytes room) × (left ≡ room_behind at bytes room) → Put at bytes room place left
-heard at bytes room place left e = record { place_is = e.0; room_is = e.1 }
-
-pub said : {at : ℕ} {bytes room : List ℕ} {place : ℕ} {left : List ℕ} → Put at bytes room place left → (place ≡ place_behind at bytes room) × (left ≡ room_behind at bytes room)
-said p = (p.place_is, p.room_is)
+use Rattle.text.specs.Devices.{Put, Wrote}
+use Rattle.text.specs.declared.Writer.{Writer}
 
 pub put_none : (at : ℕ) (room : List ℕ) → Put at [] room at room
 unfolding place_behind room_behind
@@ -56,30 +49,23 @@ put_next at bytes room i next between place left h p q =
     let e : i + 1 ≡ suc i = omega arith in
     rw (e, take-suc bytes i 0 h) (put_then p q)
 
-length_after : (bytes room : List ℕ) (at : ℕ) → length (room_behind at bytes room) ≡ length room
-unfolding room_behind
-length_after [] room at = refl
-length_after (b ∷ bytes) room at = length_after bytes (set room at b) (behind at room) ∙ length-set room at b
+-- ---- what the methods of a writer say
 
-pub put_length : {at : ℕ} {bytes room : List ℕ} {place : ℕ} {left : List ℕ} → Put at bytes room place left → length left ≡ length room
-put_length {at} {bytes} {room} p = ap length p.room_is ∙ length_after bytes room at
+pub wrote_none : (w : Writer) → Wrote w [] w
+wrote_none w = record { same = refl; put = put_none w.at w.room.now }
+
+-- some bytes right behind others
+pub wrote_then : {a b c : Writer} {xs ys : List ℕ} → Wrote a xs b → Wrote b ys c → Wrote a (xs ++ ys) c
+wrote_then p q = record { same = q.same ∙ p.same; put = put_then p.put q.put }
+
+-- one byte more of a list
+pub wrote_next : {a b c : Writer} (bytes : List ℕ) (i : ℕ) → i < length bytes → Wrote a (take i bytes) b → Wrote b (get_or bytes i 0 ∷ []) c → Wrote a (take (i + 1) bytes) c
+wrote_next {a} {b} {c} bytes i h p q =
+    record { same = q.same ∙ p.same; put = put_next a.at bytes a.room.now i b.at b.room.now c.at c.room.now h p.put q.put }
 
 -- the same bytes said otherwise
-pub put_same : {at : ℕ} {xs ys room : List ℕ} {place : ℕ} {left : List ℕ} → xs ≡ ys → Put at xs room place left → Put at ys room place left
-put_same {at} {xs} {ys} {room} {place} {left} e p = subst (λ (bytes : List ℕ). Put at bytes room place left) e p
-
--- the last byte of several, where it is answered under another name
-pub put_byte : {at byte figure : ℕ} {room : List ℕ} {place : ℕ} {left : List ℕ} → byte ≡ figure → Put at (byte ∷ []) room place left → Put at (figure ∷ []) room place left
-put_byte e p = put_same (ap (λ (b : ℕ). b ∷ []) e) p
-
--- a digit, or none
-pub digit_none : (at x power : ℕ) (room : List ℕ) → x < power → Put at (digit_at x power) room at room
-unfolding digit_at
-digit_none at x power room h = rw (lt-ltb _ _ h) (put_none at room)
-
-pub digit_one : (x power : ℕ) → power ≤ x → (48 + x / power % 10) ∷ [] ≡ digit_at x power
-unfolding digit_at
-digit_one x power h = rw (le-ltb _ _ h) refl
+pub wrote_same : {a b : Writer} {xs ys : List ℕ} → xs ≡ ys → Wrote a xs b → Wrote a ys b
+wrote_same {a} {b} e p = subst (λ (bytes : List ℕ). Wrote a bytes b) e p
 
 -- ---- from the front of the room
 
@@ -107,8 +93,10 @@ room_from (b ∷ bytes) before (r ∷ rest) at e =
     rw (lt-ltb at (length (before ++ r ∷ rest)) room, set_at before r rest b at e, ← append_snoc before b rest)
     (room_from bytes (before ++ b ∷ []) rest (at + 1) more ∙ append_snoc before b (laid bytes rest))
 
--- a whole text: as much of it as there is room for, and the bytes past it as they were
-pub put_whole : {text room : List ℕ} {place : ℕ} {left : List ℕ} → Put 0 text room place left → (place ≡ length (take (length room) text)) × (left ≡ laid text room)
-put_whole {text} {room} p =
-    let e : 0 + length (take (length room) text) ≡ length (take (length room) text) = omega arith in
-    (p.place_is ∙ place_from text [] room 0 refl ∙ e, p.room_is ∙ room_from text [] room 0 refl)
+-- a whole text from the front of the room: as much of it as there is room for, and the bytes past it as they were
+pub wrote_whole : {a b : Writer} {text room : List ℕ} → a.at ≡ 0 → a.room.now ≡ room → Wrote a text b → (b.at ≡ length (take (length room) text)) × (b.room.now ≡ laid text room)
+wrote_whole {a} {b} {text} {room} front lent p =
+    let e : 0 + length (take (length room) text) ≡ length (take (length room) text) = omega arith in (
+      p.put.place_is ∙ ap₂ (λ (at : ℕ) (bytes : List ℕ). place_behind at text bytes) front lent ∙ place_from text [] room 0 refl ∙ e,
+      p.put.room_is ∙ ap₂ (λ (at : ℕ) (bytes : List ℕ). room_behind at text bytes) front lent ∙ room_from text [] room 0 refl,
+    )

@@ -1,94 +1,93 @@
 // Bytes, words, decimal numbers and lines put into a lent room.
-// In order: a byte, some bytes, a number; the lines of document 01's report that have two numbers.
-// Every function is given a place and answers the place behind what it put. Where the room ends, nothing more is put.
+// In order: the writer; a byte, some bytes, a number; the lines of document 01's report that have two numbers.
+// Each is put right behind what was put before. Where the room ends, nothing more is put.
 #![tactic(auto)]
 
-ghost use Rattle.std.specs.Prelude.{◌≡◌, [], ◌∷◌, ◌+◌, ◌%◌, ◌<◌};
-ghost use Rattle.text.specs.Putting.{place_behind, room_behind};
-ghost use Rattle.text.specs.Devices.{Put};
-ghost use Rattle.text.specs.Decimal.{digit_at, decimal};
+ghost use Rattle.std.specs.Prelude.{◌≡◌, [], ◌∷◌};
+ghost use Rattle.text.specs.Decimal.{decimal};
 ghost use Rattle.text.specs.Lines.{pair, refused_line, line};
+ghost use Rattle.text.specs.Devices.{Wrote};
 
 use paging::Refusal;
 
-// One byte.
-pub fn put(room: &mut [u8], at: usize, byte: u8) -> usize
-    ensures { (result ≡ place_behind at (byte ∷ []) room.old) × (room.new ≡ room_behind at (byte ∷ []) room.old) }
-{
-    if at < room.len() {
-        room[at] = byte;
-        return at + 1;
+// A lent room, and the place behind what was put into it.
+// No fmt::Write: write! may answer an error, after which nothing is known of the room.
+#[derive(Drop)]
+pub struct Writer<'a> {
+    room: &'a mut [u8],
+    at: usize,
+}
+
+impl<'a> Writer<'a> {
+    // From this place of a room on.
+    pub fn new(room: &'a mut [u8], at: usize) -> Writer<'a>
+        ensures same_reference { result.room.ghost_name ≡ room.entry.ghost_name }
+        ensures place { result.at ≡ at }
+        ensures room { result.room.now ≡ room.old }
+    {
+        Writer { room, at }
     }
-    at
-}
 
-// Some bytes.
-pub fn word(room: &mut [u8], at: usize, bytes: &[u8]) -> usize
-    ensures { (result ≡ place_behind at bytes.now room.old) × (room.new ≡ room_behind at bytes.now room.old) }
-{
-    let mut here = at;
-    let mut i = 0;
-    while i < bytes.len() {
-        here = put(room, here, bytes[i]);
-        i += 1;
+    // The place behind what was put.
+    pub fn position(&self) -> usize
+        ensures { result ≡ self.now.at }
+    {
+        self.at
     }
-    here
-}
 
-fn figure(x: u32) -> u8
-    ensures { result ≡ 48 + x % 10 }
-{
-    48 + (x % 10) as u8
-}
-
-fn digit(room: &mut [u8], at: usize, x: u32, power: u32) -> usize
-    requires { 0 < power }
-    ensures { Put at (digit_at x power) room.old result room.new }
-{
-    if x < power {
-        return at;
+    // One byte.
+    pub fn put(&mut self, byte: u8)
+        ensures { Wrote self.old (byte ∷ []) self.new }
+    {
+        if self.at < self.room.len() {
+            self.room[self.at] = byte;
+            self.at += 1;
+        }
     }
-    put(room, at, figure(x / power))
-}
 
-// A number in decimal, without leading zeros.
-pub fn number(room: &mut [u8], at: usize, x: u32) -> usize
-    ensures { (result ≡ place_behind at (decimal x) room.old) × (room.new ≡ room_behind at (decimal x) room.old) }
-{
-    let a = digit(room, at, x, 1000000000);
-    let b = digit(room, a, x, 100000000);
-    let c = digit(room, b, x, 10000000);
-    let d = digit(room, c, x, 1000000);
-    let e = digit(room, d, x, 100000);
-    let f = digit(room, e, x, 10000);
-    let g = digit(room, f, x, 1000);
-    let h = digit(room, g, x, 100);
-    let i = digit(room, h, x, 10);
-    put(room, i, figure(x))
-}
+    // Some bytes.
+    pub fn word(&mut self, bytes: &[u8])
+        ensures { Wrote self.old bytes.now self.new }
+    {
+        for byte in bytes {
+            self.put(*byte);
+        }
+    }
 
-// Two numbers with something between, and a line feed.
-pub fn two_numbers(room: &mut [u8], at: usize, x: u32, between: &[u8], y: u32) -> usize
-    ensures { (result ≡ place_behind at (pair x between.now y) room.old) × (room.new ≡ room_behind at (pair x between.now y) room.old) }
-{
-    let a = number(room, at, x);
-    let b = word(room, a, between);
-    let c = number(room, b, y);
-    put(room, c, 10)
-}
+    // A number in decimal, without leading zeros: the digits of its tenth, where it has one, and the last.
+    // No itoa: a library more, and a law that ties what it prints to `decimal`, are no plainer than these lines.
+    pub fn number(&mut self, x: u32)
+        ensures { Wrote self.old (decimal x) self.new }
+    {
+        if 9 < x {
+            self.number(x / 10);
+        }
+        self.put(b'0' + (x % 10) as u8);
+    }
 
-// A refusal's number and place.
-pub fn refused_line(room: &mut [u8], at: usize, refusal: Refusal) -> usize
-    ensures { (result ≡ place_behind at (refused_line refusal) room.old) × (room.new ≡ room_behind at (refused_line refusal) room.old) }
-{
-    let a = word(room, at, b"refused ");
-    two_numbers(room, a, refusal.number(), b" at ", refusal.place())
-}
+    // Two numbers with something between, and a line feed.
+    pub fn two_numbers(&mut self, x: u32, between: &[u8], y: u32)
+        ensures { Wrote self.old (pair x between.now y) self.new }
+    {
+        self.number(x);
+        self.word(between);
+        self.number(y);
+        self.put(b'\n');
+    }
 
-// A name, a number of frames and the faults.
-pub fn line(room: &mut [u8], at: usize, name: &[u8], frames: u32, faults: u32) -> usize
-    ensures { (result ≡ place_behind at (line name.now frames faults) room.old) × (room.new ≡ room_behind at (line name.now frames faults) room.old) }
-{
-    let a = word(room, at, name);
-    two_numbers(room, a, frames, b" ", faults)
+    // A refusal's number and place.
+    pub fn refused_line(&mut self, refusal: Refusal)
+        ensures { Wrote self.old (refused_line refusal) self.new }
+    {
+        self.word(b"refused ");
+        self.two_numbers(refusal.number(), b" at ", refusal.place());
+    }
+
+    // A name, a number of frames and the faults.
+    pub fn line(&mut self, name: &[u8], frames: u32, faults: u32)
+        ensures { Wrote self.old (line name.now frames faults) self.new }
+    {
+        self.word(name);
+        self.two_numbers(frames, b" ", faults);
+    }
 }

@@ -1,91 +1,73 @@
-// Count, Write a plan, Check and Better of two. The cuts of a line are where its lists begin.
+// Count, Write a plan, Check and Better of two.
 // An answer is its faults, and a refusal's number and place; behind a colon stand words as they are left or handed back, the mark as -.
-use crate::script::{Line, part};
+use crate::script::Line;
 use crate::show;
-use paging::{Answer, MARK};
-use std::io;
+use calls::{AnswerNumbers, REQUESTS};
+use judge::VerdictNumbers;
+use paging::{MARK, Refusal};
+use std::{array, io};
 
-fn show_answer(rt: &impl Print, answer: Answer) -> io::Result<()> {
-    let told = calls::answer_numbers(answer);
-    show::number(rt, told.faults)?;
-    show::number(rt, told.number)?;
-    show::number(rt, told.place)
+fn show_answer(rt: &impl Print, answer: Result<u32, Refusal>) -> io::Result<()> {
+    let told = AnswerNumbers::from(answer);
+    print!(rt; " {} {} {}", told.faults, told.number, told.place)
 }
 
 // rule n; trace
-pub(crate) fn count(rt: &impl Print, line: Line, words: &[u32; 16500]) -> io::Result<()> {
+pub(crate) fn count(rt: &impl Print, line: &Line) -> io::Result<()> {
     show_answer(
         rt,
-        counts::count(words[0], words[1], part(words, line.first, line.place)),
+        counts::count(line.words[0], line.words[1], line.rest(line.first)),
     )
 }
 
 // rule n; trace. The plan goes into ten words that all hold 9.
-pub(crate) fn write_plan(rt: &impl Print, line: Line, words: &[u32; 16500]) -> io::Result<()> {
+pub(crate) fn write_plan(rt: &impl Print, line: &Line) -> io::Result<()> {
     let mut plan = [9u32; 10];
-    let trace = part(words, line.first, line.place);
-    show_answer(rt, counts::write_plan(words[0], words[1], trace, &mut plan))?;
-    rt.write_all(b" :")?;
+    show_answer(
+        rt,
+        counts::write_plan(
+            line.words[0],
+            line.words[1],
+            line.rest(line.first),
+            &mut plan,
+        ),
+    )?;
     show::words(rt, &plan)
 }
 
 // m; trace; plan
-pub(crate) fn judge(rt: &impl Print, line: Line, words: &[u32; 16500]) -> io::Result<()> {
-    let trace = part(words, line.first, line.second);
+pub(crate) fn judge(rt: &impl Print, line: &Line) -> io::Result<()> {
+    let trace = line.list(line.first, line.second);
     show_answer(
         rt,
-        judge::check(words[0], trace, part(words, line.second, line.place)),
+        judge::check(line.words[0], trace, line.rest(line.second)),
     )
-}
-
-fn show_better<'a>(
-    rt: &impl Print,
-    m: u32,
-    trace: &[u32],
-    first: &'a [u32],
-    second: &'a [u32],
-) -> io::Result<()> {
-    let told = judge::verdict_numbers(judge::better(m, trace, first, second));
-    show::number(rt, told.which)?;
-    show::number(rt, told.faults)?;
-    show::number(rt, told.number)?;
-    show::number(rt, told.place)?;
-    rt.write_all(b" :")?;
-    show::words(rt, judge::better_words(m, trace, first, second))
 }
 
 // m; trace; plan; plan
-pub(crate) fn better(rt: &impl Print, line: Line, words: &[u32; 16500]) -> io::Result<()> {
-    let trace = part(words, line.first, line.second);
-    let first = part(words, line.second, line.third);
-    show_better(
-        rt,
-        words[0],
-        trace,
-        first,
-        part(words, line.third, line.place),
-    )
+pub(crate) fn better(rt: &impl Print, line: &Line) -> io::Result<()> {
+    let m = line.words[0];
+    let trace = line.list(line.first, line.second);
+    let first = line.list(line.second, line.third);
+    let second = line.rest(line.third);
+    let told = VerdictNumbers::from(judge::better(m, trace, first, second));
+    print!(rt;
+        " {} {} {} {}",
+        told.which, told.faults, told.number, told.place
+    )?;
+    show::words(rt, judge::better_words(m, trace, first, second))
 }
 
-// 300 pages in turn through 256 frames: every request faults and drops the page loaded 256 requests before.
-fn rounds(trace: &mut [u32; 8000], words: &mut [u32; 8000]) {
-    for i in 0..8000 {
-        trace[i] = (i % 300) as u32;
-        if 256 <= i {
-            words[i] = ((i - 256) % 300) as u32;
+// 300 pages in turn through 256 frames: every request faults and drops the page loaded 256 requests before. The line has the plan's last word.
+pub(crate) fn turns(rt: &impl Print, line: &Line) -> io::Result<()> {
+    let trace: [u32; REQUESTS] = array::from_fn(|at| (at % 300) as u32);
+    let mut plan: [u32; REQUESTS] = array::from_fn(|at| {
+        if at < 256 {
+            MARK
+        } else {
+            ((at - 256) % 300) as u32
         }
-    }
-}
-
-fn show_rounds(rt: &impl Print, trace: &[u32; 8000], plan: &[u32; 8000]) -> io::Result<()> {
-    show_answer(rt, judge::check(256, trace, plan))
-}
-
-// The plan's last word
-pub(crate) fn turns(rt: &impl Print, words: &[u32; 16500]) -> io::Result<()> {
-    let mut trace = [0u32; 8000];
-    let mut plan = [MARK; 8000];
-    rounds(&mut trace, &mut plan);
-    plan[7999] = words[0];
-    show_rounds(rt, &trace, &plan)
+    });
+    plan[REQUESTS - 1] = line.words[0];
+    show_answer(rt, judge::check(256, &trace, &plan))
 }

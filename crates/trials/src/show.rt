@@ -1,26 +1,15 @@
-// What lines print: numbers and words.
+// Words, as lines print them.
 use paging::MARK;
 use std::io;
 
-pub(crate) fn end(rt: &impl Print) -> io::Result<()> {
-    rt.write_all(b"\n")
-}
-
-pub(crate) fn number(rt: &impl Print, number: u32) -> io::Result<()> {
-    rt.write_all(b" ")?;
-    rt.print(number)
-}
-
-pub(crate) fn word(rt: &impl Print, word: u32) -> io::Result<()> {
-    if word == MARK {
-        return rt.write_all(b" -");
-    }
-    number(rt, word)
-}
-
+// Behind a colon; the mark as -. `trial_bundle` has the same: a crate for both would take more text, a promise and edits, than these lines.
 pub(crate) fn words(rt: &impl Print, words: &[u32]) -> io::Result<()> {
-    for i in 0..words.len() {
-        word(rt, words[i])?;
+    print!(rt; " :")?;
+    for word in words {
+        match *word {
+            MARK => print!(rt; " -")?,
+            word => print!(rt; " {word}")?,
+        }
     }
     Ok(())
 }

@@ -4,7 +4,6 @@
 -- In order: the first moment that passes a test; where a hand stops; what it needs, and finds; a request.
 -- Assumes nothing.
 use mathlib.Core.Path.{◌≡◌, refl, sym, ap, ◌∙◌}
-use mathlib.Core.Logic.{◌⊎◌, inl, inr}
 use mathlib.Core.Bool.{Bool, true, false}
 use mathlib.Core.List.{List}
 use Prim.Native.Nat.{ℕ, zero, suc, ◌+◌, ◌-◌, ◌≤◌, ◌<◌}
@@ -16,8 +15,8 @@ use lib.ListN.{length, get_or, set}
 use lib.Seq.{get_or-set_same, get_or-set_other}
 use borrow.Author.Tests.{lt-ltb, le-ltb, eq-eqb, eqb-true}
 use Rattle.paging.specs.Lists.{pick, both}
-use Rattle.paging.proofs.Lists.{false≢true, both_first, both_second, both_true}
-use Rattle.walks.specs.Hands.{has, stops, first_from}
+use Rattle.paging.proofs.Lists.{false≢true, both_first, both_second}
+use Rattle.walks.specs.Hands.{has, stops, first_from, Hand}
 
 -- ---- the first that passes a test, as the loop looks for it
 
@@ -59,19 +58,9 @@ module _ (moments others served : List ℕ) (k : ℕ) where
   unfolding stops
   stops_past h = rw (le-ltb k (length served) h)
 
-  module _ (h : k < length served) where
-    pub stops_both : has moments (get_or served k 0) k ≡ true → has others (get_or served k 0) k ≡ true → stops moments others served k ≡ true
-    unfolding stops
-    stops_both a b = rw (lt-ltb k (length served) h) (both_true (has moments (get_or served k 0) k) (has others (get_or served k 0) k) a b)
-
-    pub stops_not : (has moments (get_or served k 0) k ≡ false) ⊎ (has others (get_or served k 0) k ≡ false) → stops moments others served k ≡ false
-    unfolding stops
-    stops_not (inl a) = rw (lt-ltb k (length served) h, a)
-    stops_not (inr b) = rw (lt-ltb k (length served) h, b) (both_false (has moments (get_or served k 0) k))
-      where
-        both_false : (a : Bool) → both a false ≡ false
-        both_false true = refl
-        both_false false = refl
+  pub stops_is : k < length served → stops moments others served k ≡ both (has moments (get_or served k 0) k) (has others (get_or served k 0) k)
+  unfolding stops
+  stops_is h = rw (lt-ltb k (length served) h)
 
 -- both lists have moment k for the frame served then
 abbrev pub Stands : List ℕ → List ℕ → List ℕ → ℕ → Type 0
@@ -118,13 +107,6 @@ stopped hand end moments others served frames order long same same₂ within at 
         (eqb-true _ _ (both_first (eqb (get_or moments (get_or served k 0) 0) k) (eqb (get_or others (get_or served k 0) 0) k) q), eqb-true _ _ (both_second (eqb (get_or moments (get_or served k 0) 0) k) (eqb (get_or others (get_or served k 0) 0) k) q))
 
 -- ---- a hand
-
--- just before moment t: each frame's moment is past, and the frame was served then; no frame of the hand's has a moment before it
-pub record Hand (t hand held : ℕ) (moments others served : List ℕ) : Type 0 where
-  pub onward : hand ≤ t
-  pub past : (f : ℕ) → f < held → get_or moments f 0 < t
-  pub by : (f : ℕ) → f < held → get_or served (get_or moments f 0) 0 ≡ f
-  pub behind : (f : ℕ) → f < held → get_or moments f 0 ≡ get_or others f 0 → hand ≤ get_or moments f 0
 
 module _
     (t hand held : ℕ) (moments others served : List ℕ) (x : Hand t hand held moments others served)

@@ -1,4 +1,3 @@
 -- What the proofs of the rules' walks use.
 pub mod Hands
-pub mod Numbers
 pub mod Walking

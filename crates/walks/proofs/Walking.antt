@@ -1,7 +1,8 @@
 -- One request of a rule's walk over the pages held, for any rule: a hit, a load with room, a load in place of another. The loop of such a walk.
 --
--- In order: the frame for a page; what a request does to each entry; the frame that the walk takes is the definition's; its page put there; what that does to the definition's entries; the loop.
+-- In order: what a request does to each entry; the frame for its page is the definition's; its page put there; what that does to the definition's entries; the loop.
 -- Assumes nothing.
+use Rattle.std.specs.Prelude.{Some, None}
 use mathlib.Core.Path.{◌≡◌, refl, sym, ap, ◌∙◌}
 use mathlib.Core.Logic.{◌⊎◌, inl, inr}
 use mathlib.Core.Bool.{Bool, true, false}
@@ -10,7 +11,7 @@ use Prim.Native.Nat.{ℕ, suc, ◌+◌, ◌≤◌, ◌<◌}
 use native.Mathlib.Numerals.{add-one}
 use native.Mathlib.Omega.{arith}
 use lib.Dec.{ltb}
-use lib.ListN.{length, get_or, set, take, replicate, length-set}
+use lib.ListN.{length, get_or, set, length-set}
 use lib.Seq.{get_or-set_same, get_or-set_other, get_or-append_seam}
 use borrow.Author.Tests.{lt-ltb, le-ltb, ltb-false}
 use Rattle.paging.specs.Lists.{pick, place_of}
@@ -18,10 +19,8 @@ use Rattle.paging.specs.Rules.{chosen}
 use Rattle.paging.specs.Walk.{zero_entry, entry_at, pages, loaded_at, renewed, outcome, next, fault_of, word_of, faults, plan, sees_at, entries_at}
 use Rattle.paging.specs.Calls.{frame_limit}
 use Rattle.paging.specs.Services.{laid}
-use Rattle.paging.specs.Held.{found, if_held, frame_after, held_after}
+use Rattle.paging.specs.Held.{Found, found, if_held, frame_after}
 use Rattle.paging.specs.declared.Entry.{Entry}
-use Rattle.paging.specs.declared.Found.{Found}
-use Rattle.paging.specs.declared.Found.TheVariants.{At, Absent}
 use Rattle.paging.specs.declared.Frame.{Frame}
 use Rattle.paging.specs.declared.Rule.{Rule}
 use Rattle.paging.specs.declared.Outcome.{Outcome}
@@ -29,45 +28,11 @@ use Rattle.paging.specs.declared.Outcome.TheVariants.{Hit, Loaded}
 use Rattle.paging.proofs.Lists.{length_snoc, get_or_snoc_old}
 use Rattle.paging.proofs.Choice.{chosen_below}
 use Rattle.paging.proofs.Held.{found_there, found_nowhere}
-use Rattle.paging.proofs.Frames.{pages_length, pages_at, mem_pages, held_frame, Ways, ways, outcome_hit, outcome_room, outcome_full, next_hit, next_room, next_full, pages_after, held_at_most, outcome_at}
-use Rattle.paging.proofs.Writing.{fault_most, Running, running_starts, running_steps, running_ends}
-use Rattle.held.specs.Index.{hashes, Indexed}
-use Rattle.held.specs.Placing.{put_outcome, put_pages, put_count}
-use Rattle.held.proofs.Keeping.{held_length, index_starts}
-use Rattle.held.proofs.Placing.{Going, put_fits, put_small, put_after, put_told}
-use Rattle.walks.specs.Tied.{seat_at, Tied}
-
--- ---- the frame for a page, in its three ways
-
-module _ (n p : ℕ) (goes : Frame) (held : ℕ) (words counts hints : List ℕ) (x : Indexed held words counts hints) where
-  pub takes_own : (frame : Frame) → found p (take held words) ≡ At frame → frame.0 ≡ frame_after n p (At goes) (take held words)
-  unfolding frame_after
-  takes_own frame e = rw e refl
-
-  pub takes_free : found p (take held words) ≡ Absent → held < n → held ≡ frame_after n p (At goes) (take held words)
-  unfolding frame_after
-  takes_free e h = rw (e, held_length held words counts hints x, lt-ltb held n h) refl
-
-  pub takes_other : found p (take held words) ≡ Absent → n ≤ held → goes.0 ≡ frame_after n p (At goes) (take held words)
-  unfolding frame_after
-  takes_other e h = rw (e, held_length held words counts hints x, le-ltb held n h) refl
-
--- a page that goes in a full cache stands in a frame in use: what `put` asks for
-pub takes_fit : (n p : ℕ) (goes : Frame) (held : ℕ) (words counts hints : List ℕ) → (x : Indexed held words counts hints) → n ≤ frame_limit → (n ≤ held → goes.0 < held)
-    → (frame : Frame) → frame.0 ≡ frame_after n p (At goes) (take held words)
-    → (frame.0 ≤ held) × (frame.0 < frame_limit) × ((found p (take held words) ≡ At frame) ⊎ (found p (take held words) ≡ Absent))
-takes_fit n p goes held words counts hints x small there frame is =
-    let fits = put_fits p frame held words counts hints x n (At goes) going is in
-    (fits.0, put_small p frame held words counts hints x n (At goes) going is small, fits.1)
-  where
-    going : Going n p (At goes) (take held words)
-    going out full =
-        let l : length (take held words) ≡ held = held_length held words counts hints x in
-        (goes.0, refl, omega (arith, there (omega arith)))
-
--- a page put into a frame faults at most once
-pub put_most : (p f : ℕ) (held : List ℕ) (fault : ℕ) → fault ≡ fault_of (put_outcome p f held) → fault ≤ 1
-put_most p f held fault e = rw e (fault_most (put_outcome p f held))
+use Rattle.paging.proofs.Frames.{pages_length, pages_at, mem_pages, held_frame, Ways, ways, outcome_hit, outcome_room, outcome_full, next_hit, next_room, next_full, pages_after, held_at_most}
+use Rattle.paging.proofs.Writing.{Running, running_starts, running_steps, running_ends}
+use Rattle.held.specs.Placing.{put_outcome, put_pages}
+use Rattle.held.proofs.Placing.{Going, put_fits, put_after, put_told}
+use Rattle.walks.specs.Tied.{held_before, choice_at, seat_at, told_at, Within}
 
 -- ---- what a request does to each entry
 
@@ -121,7 +86,7 @@ way_serves n t p choice o f es es' (inr (inr (e, h, at, l, is))) =
       others = λ j k d. (omega arith, get_or-set_other es f j (loaded_at t p) zero_entry d);
     }
 
-module _ (rule : Rule) (n : ℕ) (trace : List ℕ) (t held : ℕ) (words counts hints : List ℕ) (x : Tied rule n trace t held words counts hints) where
+module _ (rule : Rule) (n : ℕ) (trace : List ℕ) (t : ℕ) where
   abbrev p : ℕ
   p = get_or trace t 0
 
@@ -132,75 +97,90 @@ module _ (rule : Rule) (n : ℕ) (trace : List ℕ) (t held : ℕ) (words counts
   choice = chosen rule (sees_at trace t) (entries_at rule n trace t)
 
   abbrev before : List ℕ
-  before = take held words
+  before = pages (entries_at rule n trace t)
 
-  pub size : length (entries_at rule n trace t) ≡ held
-  size = sym (pages_length es) ∙ ap length (sym x.same) ∙ held_length held words counts hints x.index
+  pub size : length (held_before rule n trace t) ≡ length (entries_at rule n trace t)
+  unfolding held_before
+  size = pages_length es
 
-  pub few : held ≤ n
+  pub few : length (held_before rule n trace t) ≤ n
   few = omega (arith, size, held_at_most rule n trace t)
 
-  -- ---- the frame that the walk takes is the definition's, where it knows which page goes in a full cache
+  -- ---- the frame for its page, in its three ways
 
-  pub seat_is : (goes : ℕ) → (n ≤ held → goes ≡ choice) → frame_after n p (At (record { 0 = goes })) before ≡ seat_at rule n trace t
-  unfolding frame_after seat_at
-  seat_is goes knows = rw x.same (go (found p (pages es)) (ltb (length (pages es)) n) refl)
-    where
-      go : (a : Found) (b : Bool) → ltb (length (pages es)) n ≡ b
-          → if_held a (λ (f : ℕ). f) (pick b (length (pages es)) goes) ≡ if_held a (λ (f : ℕ). f) (pick b (length (pages es)) choice)
-      go (At f) b e = refl
-      go Absent true e = refl
-      go Absent false e = knows (omega (arith, ltb-false (length (pages es)) n e, pages_length es, size))
+  module _ (held : List ℕ) (same : held ≡ held_before rule n trace t) where
+    pub seat_own : (frame : Frame) → found p held ≡ Some frame → frame.0 ≡ seat_at rule n trace t
+    unfolding seat_at frame_after
+    seat_own frame e = let k : found p (held_before rule n trace t) ≡ Some frame = rw (← same) e in rw k refl
 
-  -- and then it is in use
-  pub goes_in : 1 ≤ n → (goes : ℕ) → (n ≤ held → goes ≡ choice) → n ≤ held → goes < held
-  goes_in some goes knows full = omega (arith, knows full, size, chosen_below rule (sees_at trace t) es (omega (arith, size)))
+    pub seat_free : found p held ≡ None → length held < n → length held ≡ seat_at rule n trace t
+    unfolding seat_at frame_after
+    seat_free e h =
+        let k : found p (held_before rule n trace t) ≡ None = rw (← same) e in
+        let l : length (held_before rule n trace t) < n = rw (← same) h in
+        rw (k, lt-ltb (length (held_before rule n trace t)) n l, same) refl
+
+    pub seat_other : found p held ≡ None → n ≤ length held → (goes : ℕ) → goes ≡ choice_at rule n trace t → goes ≡ seat_at rule n trace t
+    unfolding seat_at frame_after
+    seat_other e h goes is =
+        let k : found p (held_before rule n trace t) ≡ None = rw (← same) e in
+        let l : n ≤ length (held_before rule n trace t) = rw (← same) h in
+        rw (k, le-ltb (length (held_before rule n trace t)) n l) is
+
+    -- so the frame that a walk takes is the definition's, where it knows which page goes in a full cache
+    pub seat_is : (goes : ℕ) → (n ≤ length held → goes ≡ choice_at rule n trace t)
+        → frame_after n p (Some (record { 0 = goes })) held ≡ seat_at rule n trace t
+    unfolding frame_after seat_at
+    seat_is goes knows =
+        let e : length held ≡ length (held_before rule n trace t) = ap length same in
+        rw same (go (found p (held_before rule n trace t)) (ltb (length (held_before rule n trace t)) n) refl e)
+      where
+        go : (a : Found) (b : Bool) → ltb (length (held_before rule n trace t)) n ≡ b → length held ≡ length (held_before rule n trace t)
+            → if_held a (λ (f : ℕ). f) (pick b (length (held_before rule n trace t)) goes)
+            ≡ if_held a (λ (f : ℕ). f) (pick b (length (held_before rule n trace t)) (choice_at rule n trace t))
+        go (Some f) b e l = refl
+        go None true e l = refl
+        go None false e l = knows (omega (arith, ltb-false (length (held_before rule n trace t)) n e, l))
 
   module _ (some : 1 ≤ n) (frame : Frame) (is : frame.0 ≡ seat_at rule n trace t) where
-    abbrev f : ℕ
+    abbrev pub f : ℕ
     f = frame.0
 
     -- ---- its page put there
 
-    going : Going n p (At (record { 0 = choice })) before
+    going : Going n p (Some (record { 0 = choice })) before
     going out full =
-        let l : length before ≡ length es = ap length x.same ∙ pages_length es in
+        let l : length before ≡ length es = pages_length es in
         (choice, refl, omega (arith, chosen_below rule (sees_at trace t) es (omega arith)))
 
-    is_before : f ≡ frame_after n p (At (record { 0 = choice })) before
-    unfolding seat_at
-    is_before = is ∙ ap (frame_after n p (At (record { 0 = choice }))) (sym x.same)
+    is_before : f ≡ frame_after n p (Some (record { 0 = choice })) before
+    unfolding seat_at choice_at held_before
+    is_before = is
 
-    pub seat_fits : (f ≤ held) × ((found p before ≡ At frame) ⊎ (found p before ≡ Absent))
-    seat_fits = put_fits p frame held words counts hints x.index n _ going is_before
+    -- what `put` asks for
+    pub seat_fits : (f ≤ length (held_before rule n trace t)) × ((found p (held_before rule n trace t) ≡ Some frame) ⊎ (found p (held_before rule n trace t) ≡ None))
+    unfolding held_before
+    seat_fits = put_fits p frame before n _ going is_before
 
-    seat_told : put_outcome p f before ≡ outcome_at rule n trace t
-    unfolding outcome
-    seat_told = put_told p frame held words counts hints x.index n _ going is_before ∙ rw (x.same, pages_length es, pages_at es choice)
+    seat_told : put_outcome p f (held_before rule n trace t) ≡ told_at rule n trace t
+    unfolding outcome told_at held_before
+    seat_told = put_told p frame before n _ going is_before ∙ rw (pages_length es, pages_at es choice)
 
     entries_on : entries_at rule n trace (t + 1) ≡ next rule n t p (sees_at trace t) es
     unfolding entries_at
     entries_on = rw (add-one t)
 
-    seat_tied : (words' counts' hints' : List ℕ) → Indexed (put_count f held) words' counts' hints' → take (put_count f held) words' ≡ put_pages p f before
-        → Tied rule n trace (t + 1) (put_count f held) words' counts' hints'
-    seat_tied words' counts' hints' index e =
-        record {
-          index = index;
-          same =
-              e
-              ∙ put_after p frame held words counts hints x.index n _ going is_before
-              ∙ ap (held_after n p (At (record { 0 = choice }))) x.same
-              ∙ sym (ap pages entries_on ∙ pages_after rule n t p (sees_at trace t) es);
-        }
+    seat_held : put_pages p f (held_before rule n trace t) ≡ held_before rule n trace (t + 1)
+    unfolding held_before
+    seat_held = put_after p frame before n _ going is_before ∙ sym (ap pages entries_on ∙ pages_after rule n t p (sees_at trace t) es)
 
     -- ---- what that does to the entries
 
-    pub seat_way : Way n t p choice (outcome_at rule n trace t) f es (entries_at rule n trace (t + 1))
-    unfolding seat_at frame_after
+    pub seat_way : Way n t p choice (told_at rule n trace t) f es (entries_at rule n trace (t + 1))
+    unfolding seat_at frame_after choice_at held_before told_at
     seat_way = rw entries_on (go (ways n p es))
       where
-        go : Ways n p es → Way n t p choice (outcome_at rule n trace t) f es (next rule n t p (sees_at trace t) es)
+        go : Ways n p es → Way n t p choice (told_at rule n trace t) f es (next rule n t p (sees_at trace t) es)
         go (inl q) =
             let at : f ≡ place_of p (pages es) = is ∙ rw (found_there p (pages es) (mem_pages p es ∙ q)) refl in
             inl (
@@ -230,8 +210,8 @@ module _ (rule : Rule) (n : ℕ) (trace : List ℕ) (t held : ℕ) (words counts
               next_full rule n t p (sees_at trace t) es q h ∙ ap (λ (i : ℕ). set es i (loaded_at t p)) (sym at),
             ))
 
-    pub seat_serves : Served t p (outcome_at rule n trace t) f es (entries_at rule n trace (t + 1))
-    seat_serves = way_serves n t p choice (outcome_at rule n trace t) f es (entries_at rule n trace (t + 1)) seat_way
+    pub seat_serves : Served t p (told_at rule n trace t) f es (entries_at rule n trace (t + 1))
+    seat_serves = way_serves n t p choice (told_at rule n trace t) f es (entries_at rule n trace (t + 1)) seat_way
 
     pub seat_low : f < n
     seat_low = omega (arith, seat_serves.inside, held_at_most rule n trace (t + 1))
@@ -239,40 +219,45 @@ module _ (rule : Rule) (n : ℕ) (trace : List ℕ) (t held : ℕ) (words counts
 -- ---- the loop
 
 -- just before the request of moment i: what is read so far, and the pages held
-pub record Walk (rule : Rule) (n : ℕ) (trace words₀ words : List ℕ) (held : ℕ) (pages counts hints : List ℕ) (faults i : ℕ) : Type 0 where
+pub record Walk (rule : Rule) (n : ℕ) (trace words₀ words held : List ℕ) (faults i : ℕ) : Type 0 where
   pub running : Running rule n trace words₀ words faults i
-  pub tied : Tied rule n trace i held pages counts hints
+  pub same : held ≡ held_before rule n trace i
 
 module _ (rule : Rule) (n : ℕ) (trace words₀ : List ℕ) where
-  pub walk_starts : Walk rule n trace words₀ words₀ 0 (replicate frame_limit 0) (replicate hashes 0) (replicate hashes 0) 0 0
-  unfolding entries_at
-  walk_starts = record { running = running_starts rule n trace words₀; tied = record { index = index_starts; same = refl } }
+  pub walk_starts : Walk rule n trace words₀ words₀ [] 0 0
+  unfolding held_before entries_at
+  walk_starts = record { running = running_starts rule n trace words₀; same = refl }
 
-  module _
-      (words : List ℕ) (held : ℕ) (pages counts hints : List ℕ) (fs i : ℕ) (w : Walk rule n trace words₀ words held pages counts hints fs i)
-    where
-      -- its page is put into the frame, and the outcome read, in the code's own numbers
-      module _
-          (some : 1 ≤ n) (more : i < length trace) (frame : Frame) (is : frame.0 ≡ seat_at rule n trace i)
-          (o : Outcome) (told : o ≡ put_outcome (get_or trace i 0) frame.0 (take held pages))
-        where
-          pub walk_told : o ≡ outcome_at rule n trace i
-          walk_told = told ∙ seat_told rule n trace i held pages counts hints w.tied some frame is
+  module _ (words held : List ℕ) (fs i : ℕ) (w : Walk rule n trace words₀ words held fs i) where
+    -- what `put` asks for
+    pub walk_fits : Within n trace i → (frame : Frame) → frame.0 ≡ seat_at rule n trace i
+        → (frame.0 ≤ length held) × (frame.0 < frame_limit) × ((found (get_or trace i 0) held ≡ Some frame) ⊎ (found (get_or trace i 0) held ≡ None))
+    walk_fits x frame is =
+        let fits = seat_fits rule n trace i x.some frame is in
+        rw w.same (fits.0, omega (arith, seat_low rule n trace i x.some frame is, x.frames), fits.1)
 
-          pub walk_steps : (pages' counts' hints' : List ℕ) → Indexed (put_count frame.0 held) pages' counts' hints'
-              → take (put_count frame.0 held) pages' ≡ put_pages (get_or trace i 0) frame.0 (take held pages)
-              → (words' : List ℕ) → words' ≡ set words i (word_of o) → (fault : ℕ) → fault ≡ fault_of o → (held' : ℕ) → held' ≡ put_count frame.0 held
-              → Walk rule n trace words₀ words' held' pages' counts' hints' (fs + fault) (i + 1)
-          walk_steps pages' counts' hints' index e words' a fault b held' c =
-              rw (a, b, c)
-              record {
-                running = running_steps rule n trace words₀ words fs i w.running more o walk_told;
-                tied = seat_tied rule n trace i held pages counts hints w.tied some frame is pages' counts' hints' index e;
-              }
+    -- its page is put into the frame, and the outcome read, in the code's own numbers
+    module _
+        (x : Within n trace i) (frame : Frame) (is : frame.0 ≡ seat_at rule n trace i)
+        (o : Outcome) (told : o ≡ put_outcome (get_or trace i 0) frame.0 held)
+      where
+        pub walk_told : o ≡ told_at rule n trace i
+        walk_told = told ∙ ap (put_outcome (get_or trace i 0) frame.0) w.same ∙ seat_told rule n trace i x.some frame is
 
-      -- so far there are no more faults than requests
-      pub walk_few : fs ≤ i
-      walk_few = w.running.reading.few
+        pub walk_steps : (held' : List ℕ) → held' ≡ put_pages (get_or trace i 0) frame.0 held
+            → (words' : List ℕ) → words' ≡ set words i (word_of o) → (fault : ℕ) → fault ≡ fault_of o
+            → Walk rule n trace words₀ words' held' (fs + fault) (i + 1)
+        unfolding told_at
+        walk_steps held' e words' a fault b =
+            rw (a, b)
+            record {
+              running = running_steps rule n trace words₀ words fs i w.running x.inside o walk_told;
+              same = e ∙ ap (put_pages (get_or trace i 0) frame.0) w.same ∙ seat_held rule n trace i x.some frame is;
+            }
 
-      pub walk_ends : length trace ≤ i → (fs ≡ faults rule n trace) × (words ≡ laid (plan rule n trace) words₀)
-      walk_ends all = running_ends rule n trace words₀ words fs i w.running all
+    -- so far there are no more faults than requests
+    pub walk_few : fs ≤ i
+    walk_few = w.running.reading.few
+
+    pub walk_ends : length trace ≤ i → (fs ≡ faults rule n trace) × (words ≡ laid (plan rule n trace) words₀)
+    walk_ends all = running_ends rule n trace words₀ words fs i w.running all

@@ -1,20 +1,36 @@
--- A rule's walk over a whole trace, tied to the definition's: the pages that the code holds are those of `entries_at`.
+-- A rule's walk over a whole trace, tied to the definition's: the state just before the request of moment t.
 -- Assumes nothing.
-use Rattle.std.specs.Prelude.{◌≡◌, List, ℕ, get_or, take}
+use Rattle.std.specs.Prelude.{List, ℕ, ◌≤◌, ◌<◌, Some, length, get_or}
 use Rattle.paging.specs.Rules.{chosen}
-use Rattle.paging.specs.Walk.{pages, sees_at, entries_at}
+use Rattle.paging.specs.Walk.{pages, outcome, sees_at, entries_at}
 use Rattle.paging.specs.Held.{frame_after}
-use Rattle.paging.specs.declared.Found.TheVariants.{At}
+use Rattle.paging.specs.Calls.{frame_limit, request_limit}
 use Rattle.paging.specs.declared.Rule.{Rule}
-use Rattle.held.specs.Index.{Indexed}
+use Rattle.paging.specs.declared.Outcome.{Outcome}
 
--- the frame in which the page of moment t stands after its request, with the rule's choice as the page that goes
+-- the pages held
+unfoldable pub held_before : Rule → ℕ → List ℕ → ℕ → List ℕ
+unfolding entries_at
+held_before rule n trace t = pages (entries_at rule n trace t)
+
+-- the frame of the page that the rule drops
+unfoldable pub choice_at : Rule → ℕ → List ℕ → ℕ → ℕ
+unfolding chosen entries_at
+choice_at rule n trace t = chosen rule (sees_at trace t) (entries_at rule n trace t)
+
+-- the frame in which the page of moment t stands after its request
 unfoldable pub seat_at : Rule → ℕ → List ℕ → ℕ → ℕ
-unfolding frame_after chosen entries_at
-seat_at rule n trace t =
-    frame_after n (get_or trace t 0) (At (record { 0 = chosen rule (sees_at trace t) (entries_at rule n trace t) })) (pages (entries_at rule n trace t))
+unfolding frame_after choice_at held_before
+seat_at rule n trace t = frame_after n (get_or trace t 0) (Some (record { 0 = choice_at rule n trace t })) (held_before rule n trace t)
 
--- just before the request of moment t: the definition's pages, with their index
-pub record Tied (rule : Rule) (n : ℕ) (trace : List ℕ) (t held : ℕ) (words counts hints : List ℕ) : Type 0 where
-  pub index : Indexed held words counts hints
-  pub same : take held words ≡ pages (entries_at rule n trace t)
+-- what that request comes to
+unfoldable pub told_at : Rule → ℕ → List ℕ → ℕ → Outcome
+unfolding outcome entries_at
+told_at rule n trace t = outcome rule n (get_or trace t 0) (sees_at trace t) (entries_at rule n trace t)
+
+-- a moment of a trace in order, in 1 to 256 frames
+pub record Within (n : ℕ) (trace : List ℕ) (t : ℕ) : Type 0 where
+  pub some : 1 ≤ n
+  pub frames : n ≤ frame_limit
+  pub requests : length trace ≤ request_limit
+  pub inside : t < length trace

@@ -1,52 +1,68 @@
-// What the walks of the rules over a whole trace have in common, beside the pages held (crate `held`): a request served, where the walk knows which page would go;
-// a hand that goes over the moments; the fault of an outcome and its word of the plan; how many pages are held then.
+// The walk of a rule over a whole trace, once for all rules: `run`, over a `Policy`, which is what a rule keeps beside the pages held and by which it knows the page that goes.
+// In order: a policy; a hand that goes over the moments, by which two of the policies find that page; one request; the walk.
 //
-// `served` has the frame in which the page of each moment stood then. A list of moments has one for each frame.
+// A hand's list `served` has the frame in which the page of each moment stood then. A list of moments has one for each frame.
 #![tactic(auto)]
 
-ghost use Rattle.std.specs.Prelude.{◌≡◌, ◌-◌, ◌≤◌, ◌<◌, take, set};
-ghost use Rattle.paging.specs.Calls.{frame_limit};
-ghost use Rattle.paging.specs.Held.{frame_after};
-ghost use Rattle.paging.specs.Walk.{fault_of, word_of};
-ghost use Rattle.paging.specs.declared.Found.TheVariants.{At};
-ghost use Rattle.held.specs.Index.{Indexed};
-ghost use Rattle.held.specs.Placing.{put_outcome, put_pages, put_count};
+ghost use Rattle.std.specs.Prelude.{◌≡◌, ℕ, List, ◌-◌, ◌+◌, ◌≤◌, ◌<◌, length, get_or, set, None};
+ghost use Rattle.paging.specs.Calls.{frame_limit, request_limit, trace_tests};
+ghost use Rattle.paging.specs.Held.{found};
+ghost use Rattle.paging.specs.Services.{answered, laid, written};
+ghost use Rattle.paging.specs.Walk.{fault_of, word_of, faults, plan};
+ghost use Rattle.paging.specs.declared.Rule.{Rule};
 ghost use Rattle.walks.specs.Hands.{has, stops, first_from};
+ghost use Rattle.walks.specs.Tied.{held_before, choice_at, seat_at, told_at, Within};
 
-use paging::{Found, Frame, Outcome, Page};
+use held::Held;
+use paging::{Frame, Outcome, Page, Refusal};
 
-// The frame for a page that is requested in n frames: its own, if it is held; the next free one, if there is room; else that of the page that goes.
-fn frame_for(
-    n: usize,
-    page: Page,
-    goes: Frame,
-    held: usize,
-    pages: &[u32],
-    counts: &[u16],
-    hints: &[u8],
-) -> Frame
-    requires { Indexed held pages.now counts.now hints.now }
-    ensures { result.0 ≡ frame_after n page.0 (At goes) (take held pages.now) }
-{
-    match held::find(page, held, pages, counts, hints) {
-        Found::At(frame) => frame,
-        Found::Absent => {
-            if held < n {
-                return Frame(held as u32);
-            }
-            goes
-        }
-    }
+// What a rule keeps over a trace, in arrays of the limits' lengths, since the walk has no heap, and the page that it drops.
+pub trait Policy {
+    ghost rule: { Rule };
+
+    // What it keeps is right, just before the request of moment t of a trace in n frames.
+    ghost Keeps: { Self → ℕ → List ℕ → ℕ → Type 0 };
+
+    // Before the first request.
+    fn start() -> Self
+        ensures { (n : ℕ) (trace : List ℕ) → 1 ≤ n → Keeps result n trace 0 };
+
+    // Frames, trace and moment come one by one, as `Within` speaks of the three.
+    // The frame whose page goes, where the page requested is absent and the cache full: the one that the rule drops.
+    fn goes(&mut self, n: usize, trace: &[u32], t: usize, held: &Held) -> Frame
+        requires within { Within n trace.now t }
+        requires keeps { Keeps self.old n trace.now t }
+        requires held { held.now ≡ held_before rule n trace.now t }
+        requires absent { found (get_or trace.now t 0) held.now ≡ None }
+        requires full { n ≤ length held.now }
+        ensures goes { result.0 ≡ choice_at rule n trace.now t }
+        ensures keeps { Keeps self.new n trace.now t };
+
+    // The request of moment t was served, its page in this frame, and came to this.
+    fn served(&mut self, n: usize, trace: &[u32], t: usize, frame: Frame, outcome: Outcome)
+        requires within { Within n trace.now t }
+        requires keeps { Keeps self.old n trace.now t }
+        requires seat { frame.0 ≡ seat_at rule n trace.now t }
+        requires told { outcome ≡ told_at rule n trace.now t }
+        ensures { Keeps self.new n trace.now (t + 1) };
 }
 
-// Whether a list of moments has this one for the frame.
+// Whether a list of moments has this one for the frame. Tested by hand and not by `get`: so the clause is read off the two tests (`has`).
 fn has(moments: &[u16], frame: usize, moment: usize) -> bool
     ensures { result ≡ has moments.now frame moment }
 {
-    if frame < moments.len() {
-        return moments[frame] as usize == moment;
+    frame < moments.len() && moments[frame] as usize == moment
+}
+
+// Whether both lists have this moment for the frame served then, or `served` has none.
+fn stops(at: usize, served: &[u8], moments: &[u16], others: &[u16]) -> bool
+    ensures { result ≡ stops moments.now others.now served.now at }
+{
+    if served.len() <= at {
+        return true;
     }
-    false
+    let frame = served[at] as usize;
+    has(moments, frame, at) && has(others, frame, at)
 }
 
 // The first moment, from the hand on and before `end`, that both lists have for the frame served then, or for which `served` has none.
@@ -54,75 +70,68 @@ fn has(moments: &[u16], frame: usize, moment: usize) -> bool
 pub fn onward(hand: usize, end: usize, served: &[u8], moments: &[u16], others: &[u16]) -> usize
     ensures { result ≡ first_from (stops moments.now others.now served.now) hand (end - hand) }
 {
-    let mut at = hand;
-    while at < end {
-        if served.len() <= at {
+    // No `find` over the range: the loop goes on as the definition does (`first_from`), where `find` would need a law of its own.
+    for at in hand..end {
+        if stops(at, served, moments, others) {
             return at;
         }
-        let frame = served[at] as usize;
-        if has(moments, frame, at) {
-            if has(others, frame, at) {
-                return at;
-            }
-        }
-        at += 1;
     }
-    at
+    hand.max(end)
 }
 
 // The fault of the outcome of moment i; its word of the plan goes into the lent words, if there is one for it.
 pub fn told(outcome: Outcome, i: usize, words: &mut [u32]) -> u32
     ensures { (result ≡ fault_of outcome) × (words.new ≡ set words.old i (word_of outcome)) }
 {
+    // Tried with `get_mut`: its proof takes the list from both arms by hand, which is no plainer.
     if i < words.len() {
         words[i] = outcome.word();
     }
     outcome.fault()
 }
 
-// How many pages are held, once a page is put into the frame: one more, if it was free.
-pub fn count_after(frame: Frame, held: usize) -> usize
-    ensures { result ≡ put_count frame.0 held }
+// The frame for the page of moment t: its own, if it is held; the next free one, if there is room; else that of the page that goes.
+fn seat<P: Policy>(policy: &mut P, n: usize, trace: &[u32], t: usize, held: &Held) -> Frame
+    requires within { Within n trace.now t }
+    requires keeps { P.Keeps policy.old n trace.now t }
+    requires held { held.now ≡ held_before P.rule n trace.now t }
+    ensures seat { result.0 ≡ seat_at P.rule n trace.now t }
+    ensures keeps { P.Keeps policy.new n trace.now t }
 {
-    if held <= frame.0 as usize {
-        return held + 1;
+    match held.find(Page(trace[t])) {
+        Some(frame) => frame,
+        None => {
+            let len = held.len();
+            if len < n {
+                return Frame(len as u32);
+            }
+            policy.goes(n, trace, t, held)
+        }
     }
-    held
 }
 
-// What a request comes to: the frame of its page then, how many pages are held then, and its fault or none.
-#[derive(Clone, Copy)]
-pub struct Seat {
-    pub frame: Frame,
-    pub held: usize,
-    pub fault: u32,
+// Walks a trace from empty: its faults, and as much of its plan as there are lent words for. With no words it only counts.
+fn walked<P: Policy + Drop>(n: u32, trace: &[u32], words: &mut [u32]) -> u32
+    requires { (1 ≤ n) × (n ≤ frame_limit) × (length trace.now ≤ request_limit) }
+    ensures { (result ≡ faults P.rule n trace.now) × (words.new ≡ laid (plan P.rule n trace.now) words.old) }
+{
+    let mut policy = P::start();
+    let mut held = Held::new();
+    let mut faults: u32 = 0;
+    // By moments, and not over the pages: a policy is asked with the whole trace, as MIN looks ahead.
+    for t in 0..trace.len() {
+        let frame = seat(&mut policy, n as usize, trace, t, &held);
+        let outcome = held.put(Page(trace[t]), frame);
+        policy.served(n as usize, trace, t, frame, outcome);
+        faults += told(outcome, t, words);
+    }
+    faults
 }
 
-// Serves the request of moment i in n frames: its page comes into its frame, and its word of the plan into the lent words, if there is one for it.
-pub fn serve(
-    n: usize,
-    page: Page,
-    goes: Frame,
-    i: usize,
-    held: usize,
-    pages: &mut [u32],
-    counts: &mut [u16],
-    hints: &mut [u8],
-    words: &mut [u32],
-) -> Seat
-    requires { (Indexed held pages.old counts.old hints.old) × (held ≤ n) × (n ≤ frame_limit) × (n ≤ held → goes.0 < held) }
-    ensures frame { result.frame.0 ≡ frame_after n page.0 (At goes) (take held pages.old) }
-    ensures held { result.held ≡ put_count result.frame.0 held }
-    ensures fault { result.fault ≡ fault_of (put_outcome page.0 result.frame.0 (take held pages.old)) }
-    ensures index { Indexed (put_count result.frame.0 held) pages.new counts.new hints.new }
-    ensures pages { take (put_count result.frame.0 held) pages.new ≡ put_pages page.0 result.frame.0 (take held pages.old) }
-    ensures words { words.new ≡ set words.old i (word_of (put_outcome page.0 result.frame.0 (take held pages.old))) }
+// The rule's faults of a trace, or refusal 2, 3 or 4; as much of its plan as there are lent words for goes into them. A refusal keeps all words.
+pub fn run<P: Policy + Drop>(n: u32, trace: &[u32], words: &mut [u32]) -> Result<u32, Refusal>
+    ensures { (result ≡ answered (trace_tests n trace.now) P.rule n trace.now) × (words.new ≡ written (trace_tests n trace.now) P.rule n trace.now words.old) }
 {
-    let frame = frame_for(n, page, goes, held, pages, counts, hints);
-    let outcome = held::put(page, frame, held, pages, counts, hints);
-    Seat {
-        frame: frame,
-        held: count_after(frame, held),
-        fault: told(outcome, i, words),
-    }
+    calls::trace_gate(n, trace)?;
+    Ok(walked::<P>(n, trace, words))
 }

@@ -1,5 +1,6 @@
 -- Laws of words in a file: how many there are, a word or none, and one word more, laid at the front of lent ones.
 -- Assumes nothing.
+use Rattle.std.specs.Prelude.{Some, None}
 use mathlib.Core.Path.{◌≡◌, refl, sym, ap, ◌∙◌}
 use mathlib.Core.List.{List, [], ◌∷◌, ◌++◌}
 use Prim.Native.Nat.{ℕ, zero, suc, ◌+◌, ◌*◌, ◌≤◌, ◌<◌}
@@ -9,7 +10,6 @@ use lib.ListN.{length, get_or, drop, set}
 use lib.Seq.{drop-cons, append_snoc, set_at}
 use borrow.Author.Tests.{lt-ltb, le-ltb}
 use Rattle.words.specs.Bytes.{word_at, word_in, words_at}
-use Rattle.words.specs.declared.Word.TheVariants.{Is, Missing}
 
 pub length_words : (file : List ℕ) (at count : ℕ) → length (words_at file at count) ≡ count
 unfolding words_at
@@ -18,15 +18,15 @@ length_words file at (suc count) = ap suc (length_words file (at + 4) count)
 
 -- ---- a word or none
 
-pub word_missing : (file : List ℕ) (at : ℕ) → length file < at + 4 → word_in file at ≡ Missing
+pub word_missing : (file : List ℕ) (at : ℕ) → length file < at + 4 → word_in file at ≡ None
 unfolding word_in
 word_missing file at h = rw (lt-ltb _ _ h)
 
-pub word_whole : (file : List ℕ) (at : ℕ) → at + 4 ≤ length file → word_in file at ≡ Is (word_at file at)
+pub word_whole : (file : List ℕ) (at : ℕ) → at + 4 ≤ length file → word_in file at ≡ Some (word_at file at)
 unfolding word_in
 word_whole file at h = rw (le-ltb _ _ h)
 
-pub words_more : (file : List ℕ) (at count : ℕ) → words_at file at (suc count) ≡ words_at file at count ++ (word_at file (at + 4 * count) ∷ [])
+words_more : (file : List ℕ) (at count : ℕ) → words_at file at (suc count) ≡ words_at file at count ++ (word_at file (at + 4 * count) ∷ [])
 unfolding words_at
 words_more file at zero = let e : at + 4 * 0 ≡ at = omega arith in rw e
 words_more file at (suc count) =
@@ -35,7 +35,7 @@ words_more file at (suc count) =
 
 -- ---- a list that grows at the front of lent words
 
-pub lay_next : (done : List ℕ) (word i : ℕ) (lent : List ℕ) → length done ≡ i → i < length lent
+lay_next : (done : List ℕ) (word i : ℕ) (lent : List ℕ) → length done ≡ i → i < length lent
     → set (done ++ drop i lent) i word ≡ done ++ (word ∷ []) ++ drop (i + 1) lent
 lay_next done word i lent e h =
     ap (λ (xs : List ℕ). set (done ++ xs) i word) (drop-cons lent i 0 h)

@@ -1,15 +1,15 @@
--- `calls::place_of` meets its contract. The loop's invariant: the members passed and the place in the rest make the place in the whole.
+-- `calls::place_of` meets its contract.
 -- Assumes nothing.
-use native.Mathlib.Omega.{arith}
-use borrow.Author.Rules.{rules}
-use Rattle.calls.proofs.Search.{place_here, place_on, place_end}
+use Rattle.std.proofs.Common.{◌≡◌, ℕ, ◌∙◌, eqb, rules, tests}
+use Rattle.std.specs.List.{position}
+use Rattle.std.proofs.lemmas.Iterator.{YieldsList-from_slice}
+use Rattle.std.proofs.lemmas.Iterator.Search.{position_from_yields_List}
+use Rattle.calls.proofs.Search.{place_is}
 use Rattle.calls.proofs.place_of.Goals as goal
 
-pub returns-then-pages-i : goal.returns-then-pages-i
-returns-then-pages-i c = omega (arith, place_here c.args.page c.args.pages.now c.loop-i.i c.loop-i-test.true c.if-pages-i.true)
-
-pub loop-i-preserved : goal.loop-i-preserved
-loop-i-preserved c = omega (arith, place_on c.args.page c.args.pages.now c.loop-i.i c.loop-i-test.true c.if-pages-i.false)
-
 pub returns : goal.returns
-returns c = omega (arith, place_end c.args.page c.args.pages.now c.loop-i.i (search rules))
+returns c =
+    let found : c.position.result ≡ position (λ (q : ℕ). eqb q c.args.page) c.args.pages.now =
+    position_from_yields_List (λ (q : ℕ). eqb q c.args.page) _ _ c.position.result c.position.ensures.ran
+    (YieldsList-from_slice _ c.iter.ensures.rest) (λ x b q k. search (rules, tests)) in
+    c.unwrap_or.ensures ∙ rw found (place_is c.args.page c.args.pages.now)

@@ -1,28 +1,26 @@
--- `entries::find` meets its contract. The loop's invariant: no entry passed has the page.
+-- `entries::find` meets its contract: the search of the library is the one of the definition.
 -- Assumes nothing.
-use mathlib.Core.Path.{◌≡◌}
-use Prim.Native.Nat.{◌≤◌}
-use lib.ListN.{length, take}
-use native.Mathlib.Omega.{arith}
+use Rattle.std.proofs.Common.{◌≡◌, take, sym, ◌∙◌, ap, eqb, rules, tests}
+use Rattle.std.specs.List.{position}
+use Rattle.std.proofs.lemmas.Iterator.{YieldsList-from_slice}
+use Rattle.std.proofs.lemmas.Iterator.Search.{position_from_yields_List}
+use Rattle.paging.specs.Held.{found}
+use Rattle.paging.specs.Walk.{pages}
+use Rattle.paging.specs.declared.Entry.{Entry}
 use Rattle.entries.proofs.Long.{long}
-use Rattle.entries.proofs.Search.{take_in_use, found_at, found_none}
+use Rattle.entries.proofs.Search.{take_in_use, framed, found_by}
 use Rattle.entries.proofs.find.Goals as goal
-use Rattle.entries.proofs.find.Goals.{At-loop-i}
+use Rattle.entries.proofs.find.Goals.{After-position}
 
--- the entries up to the end are those in use
-front : (c : At-loop-i)
-    → (c.in_use-end.result ≤ length c.args.entries)
-    × (take c.in_use-end.result c.args.entries ≡ take c.args.held c.args.entries)
-front c =
-    let size : length c.args.entries ≡ 256 = long c.args.entries _ c.well_formed.0 in
-    (omega arith, rw c.in_use-end.ensures (take_in_use c.args.held c.args.entries size))
+told : (c : After-position) → framed c.position.result ≡ found c.args.page.0 (pages (take c.args.held c.args.entries))
+told c =
+    let ran : c.position.result ≡ position (λ (e : Entry). eqb e.page.0 c.args.page.0) (take c.in_use.result c.args.entries) =
+    position_from_yields_List (λ (e : Entry). eqb e.page.0 c.args.page.0) _ _ c.position.result c.position.ensures.ran
+    (YieldsList-from_slice _ c.iter.ensures.rest) (λ x b q k. search (rules, tests)) in
+    rw ran (rw c.in_use.ensures (rw (take_in_use c.args.held c.args.entries (long c.args.entries _ c.well_formed.0)) (found_by c.args.page.0 (take c.args.held c.args.entries))))
 
-pub returns-then-entries-i : goal.returns-then-entries-i
-returns-then-entries-i c =
-    let (room, same) = front (goal.at.returns-then-entries-i c).At-loop-i in
-    rw (← same) (found_at c.args.entries _ _ room _ c.loop-i-test.true c.if-entries-i.true c.loop-i.invariant.2)
+pub returns-in_err-at : goal.returns-in_err-at
+returns-in_err-at c = c.from_residual.ensures ∙ sym (ap framed c.in_err-at.was) ∙ told (goal.at.returns-in_err-at c).After-position
 
 pub returns : goal.returns
-returns c =
-    let (room, same) = front (goal.at.returns c).At-loop-i in
-    rw (← same) (found_none c.args.entries _ _ room (λ j h. c.loop-i.invariant.2 j (omega arith)))
+returns c = sym (ap framed c.in_ok-at.was) ∙ told (goal.at.returns c).After-position

@@ -1,20 +1,15 @@
--- `reading::mark_at` meets its contract. The loop's invariant: the words passed and the first mark in the rest make the first mark in the whole.
+-- `reading::mark_at` meets its contract: the search through the requests' numbers finds the first mark.
 -- Assumes nothing.
-use mathlib.Core.Path.{sym, ◌∙◌}
-use Prim.Native.Nat.{◌≤◌}
-use native.Mathlib.Omega.{arith}
-use Rattle.reading.proofs.Marks.{mark_here, mark_on, mark_end}
+use Rattle.std.proofs.Common.{◌≡◌, refl, arith, rules, tests}
+use Rattle.std.specs.List.{position, range_with_len}
+use Rattle.std.proofs.lemmas.Iterator.{YieldsList-from_range}
+use Rattle.std.proofs.lemmas.Iterator.Search.{position_from_yields_List}
+use Rattle.reading.proofs.Marks.{is_mark, mark_told}
 use Rattle.reading.proofs.mark_at.Goals as goal
-
-pub returns-then-number_at : goal.returns-then-number_at
-returns-then-number_at c =
-    omega (arith, mark_here c.args.file.now c.args.requests c.loop-i.i c.loop-i-test.true (sym c.number_at.ensures ∙ c.if-number_at.true))
-
-pub loop-i-preserved : goal.loop-i-preserved
-loop-i-preserved c =
-    omega (arith, mark_on c.args.file.now c.args.requests c.loop-i.i c.loop-i-test.true (λ e. c.if-number_at.false (c.number_at.ensures ∙ e)))
 
 pub returns : goal.returns
 returns c =
-    let h : c.args.requests ≤ c.loop-i.i = omega arith in
-    omega (arith, mark_end c.args.file.now c.args.requests c.loop-i.i h)
+    let found : c.position.result ≡ position (is_mark c.args.file.now) (range_with_len 0 c.args.requests) =
+    position_from_yields_List (is_mark c.args.file.now) _ _ c.position.result c.position.ensures.ran
+    (YieldsList-from_range 0 c.args.requests c.args.requests refl (omega arith)) (λ x b q k. search (rules, tests)) in
+    rw found (mark_told c.args.file.now c.args.requests)

@@ -1,8 +1,8 @@
 -- `reporting::lines` meets its contract.
 -- Assumes nothing.
-use Rattle.text.proofs.Putting.{heard, put_then}
+use Rattle.text.proofs.Putting.{wrote_then}
 use Rattle.reporting.proofs.lines.Goals as goal
 
 pub returns : goal.returns
 returns c =
-    put_then (put_then (put_then (put_then (heard _ _ _ _ _ c.word-a.ensures) (heard _ _ _ _ _ c.number-b.ensures)) (heard _ _ _ _ _ c.put-c.ensures)) c.rules_text-d.ensures) c.claim_line.ensures
+    wrote_then (wrote_then (wrote_then (wrote_then c.word.ensures c.number.ensures) c.put.ensures) c.rules_text.ensures) c.claim_line.ensures

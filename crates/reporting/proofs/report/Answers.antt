@@ -1,55 +1,10 @@
 -- `reporting::report` meets its contract.
 -- Assumes nothing.
-use mathlib.Core.Path.{◌≡◌, refl, sym, ap₂, subst, ◌∙◌}
-use mathlib.Core.List.{List}
-use Prim.Native.Nat.{ℕ, ◌≤◌}
-use lib.ListN.{length, take, replicate}
-use lib.Seq.{length-take-le}
-use Rattle.paging.specs.Calls.{request_limit}
-use Rattle.reading.specs.Reading.{read_of}
-use Rattle.reading.specs.declared.ReadAnswer.TheVariants.{Bundle}
-use Rattle.reporting.specs.Report.{lines_of}
-use Rattle.text.proofs.Putting.{heard, put_same, put_whole}
-use Rattle.reporting.proofs.Reading.{text_refused, both_fit, text_lines}
+use borrow.Author.Rules.{rules}
+use Rattle.text.proofs.Putting.{wrote_whole}
 use Rattle.reporting.proofs.report.Goals as goal
-use Rattle.reporting.proofs.report.Goals.{In-Bundle}
 
--- the words lent for the requests, and for the plan
-abbrev zeros : List ℕ
-zeros = replicate request_limit 0
-
-read_is : (c : In-Bundle) → read_of c.args.file.now request_limit request_limit ≡ Bundle c.in-Bundle.sizes
-read_is c = sym c.read.ensures.0 ∙ c.in-Bundle.is
-
-requests-fit : (c : In-Bundle) → c.in-Bundle.sizes.requests ≤ length c.read.new.requests
-requests-fit c =
-    subst (λ (ws : List ℕ). c.in-Bundle.sizes.requests ≤ length ws) (sym c.read.ensures.1) (both_fit _ _ (read_is c) zeros zeros refl refl).0
-
-plan_fits_lem : (c : In-Bundle) → c.in-Bundle.sizes.planned ≤ length c.read.new.plan
-plan_fits_lem c =
-    subst (λ (ws : List ℕ). c.in-Bundle.sizes.planned ≤ length ws) (sym c.read.ensures.2) (both_fit _ _ (read_is c) zeros zeros refl refl).1
-
-pub slice_bounds-requests-end : goal.slice_bounds-requests-end
-slice_bounds-requests-end c = requests-fit (goal.at.slice_bounds-requests-end c).In-Bundle
-
-pub slice_bounds-lines-end : goal.slice_bounds-lines-end
-slice_bounds-lines-end c = sym (length-take-le _ _ (requests-fit (goal.at.slice_bounds-lines-end c).In-Bundle))
-
-pub slice_bounds-plan-end : goal.slice_bounds-plan-end
-slice_bounds-plan-end c = plan_fits_lem (goal.at.slice_bounds-plan-end c).In-Bundle
-
-pub slice_bounds-lines-end-in-Bundle : goal.slice_bounds-lines-end-in-Bundle
-slice_bounds-lines-end-in-Bundle c = sym (length-take-le _ _ (plan_fits_lem (goal.at.slice_bounds-lines-end-in-Bundle c).In-Bundle))
-
-pub returns-in-Refused : goal.returns-in-Refused
-returns-in-Refused c =
-    put_whole (put_same (text_refused c.args.file.now _ (sym c.read.ensures.0 ∙ c.in-Refused.is)) (heard _ _ _ _ _ c.refused_line.ensures))
-
-pub returns-in-Bundle : goal.returns-in-Bundle
-returns-in-Bundle c =
-    let sizes = c.in-Bundle.sizes in
-    put_whole
-    (put_same
-    (ap₂ (λ (ws ps : List ℕ). lines_of sizes (take sizes.requests ws) (take sizes.planned ps)) c.read.ensures.1 c.read.ensures.2
-    ∙ text_lines c.args.file.now sizes (read_is (goal.at.returns-in-Bundle c).In-Bundle) zeros zeros refl refl)
-    c.lines.ensures)
+pub returns : goal.returns
+returns c =
+    let whole = wrote_whole c.new-out.ensures.place c.new-out.ensures.room c.text_of.ensures in
+    search rules

@@ -1,8 +1,8 @@
 -- `reporting::rules_text` meets its contract.
 -- Assumes nothing.
-use Rattle.text.proofs.Putting.{put_then}
+use Rattle.text.proofs.Putting.{wrote_then}
 use Rattle.reporting.proofs.rules_text.Goals as goal
 
 pub returns : goal.returns
 returns c =
-    put_then (put_then (put_then (put_then c.rule_line-a.ensures c.rule_line-b.ensures) c.rule_line-c.ensures) c.rule_line-d.ensures) c.rule_line.ensures
+    wrote_then (wrote_then (wrote_then (wrote_then c.rule_line.ensures c.rule_line-2.ensures) c.rule_line-3.ensures) c.rule_line-4.ensures) c.rule_line-5.ensures

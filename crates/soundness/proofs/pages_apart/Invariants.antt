@@ -1,14 +1,13 @@
--- `soundness::pages_apart` meets its contract: the pages from here on answer the whole.
+-- `soundness::pages_apart` meets its contract. The loop's invariant: the pages that are left answer the whole.
 -- Assumes nothing.
 use mathlib.Core.Path.{◌≡◌}
-use Prim.Native.Nat.{◌≤◌, ◌-◌}
-use lib.ListN.{take}
-use Rattle.soundness.specs.Sound.{pairwise}
-use Rattle.soundness.proofs.Words.{differ, from}
+use lib.ListN.{length, take}
+use Rattle.soundness.specs.Sound.{pairwise, distinct_pages}
+use Rattle.soundness.proofs.Words.{differ}
 use Rattle.soundness.proofs.pages_apart.Given as goal
 
-abbrev pub invariant-loop-i : goal.invariant-loop-i
-invariant-loop-i l = (l.i ≤ l.held) × (l.held ≤ 256) × (pairwise differ (from l.i l.held l.words) ≡ pairwise differ (take l.held l.words))
+abbrev pub invariant-loop-p : goal.invariant-loop-p
+invariant-loop-p l = pairwise differ l.rest ≡ distinct_pages (take l.fn.held l.fn.entries)
 
-abbrev pub decreases-loop-i : goal.decreases-loop-i
-decreases-loop-i l = l.held - l.i
+abbrev pub decreases-loop-p : goal.decreases-loop-p
+decreases-loop-p l = length l.rest

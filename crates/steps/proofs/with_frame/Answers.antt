@@ -15,14 +15,14 @@ use Rattle.steps.proofs.with_frame.Goals as goal
 shifted : (b : ℕ) → b < word_bits → (1 * 2 ^ b) % 2 ^ word_bits ≡ 2 ^ b
 shifted b h = shl_exact {a = 1} 1 b word_bits (omega arith) (omega arith) ∙ (let e : 1 * 2 ^ b ≡ 2 ^ b = omega arith in e)
 
-pub returns-then-at-lt-WORDS : goal.returns-then-at-lt-WORDS
-returns-then-at-lt-WORDS c =
+pub returns-then-at-lt4 : goal.returns-then-at-lt4
+returns-then-at-lt4 c =
     let a = c.args in
     ap (λ (bit : ℕ). set a.map (a.frame.0 / word_bits) (bit_or (get_or a.map (a.frame.0 / word_bits) 0) bit)) (shifted (a.frame.0 % word_bits) (omega arith))
     ∙ sym (frame_or a.map (made a.map _ c.well_formed.0) a.frame.0)
 
-pub returns-else-at-lt-WORDS : goal.returns-else-at-lt-WORDS
-returns-else-at-lt-WORDS c =
+pub returns-else-at-lt4 : goal.returns-else-at-lt4
+returns-else-at-lt4 c =
     let w : Words c.args.map = made c.args.map _ c.well_formed.0 in
-    let h : length c.args.map ≤ c.args.frame.0 / word_bits = omega (arith, w.four, c.if-at-lt-WORDS.false) in
+    let h : length c.args.map ≤ c.args.frame.0 / word_bits = omega (arith, w.four, c.if-at-lt4.false) in
     sym (frame_or c.args.map w c.args.frame.0 ∙ set_out c.args.map (c.args.frame.0 / word_bits) _ h)

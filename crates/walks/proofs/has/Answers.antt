@@ -9,6 +9,6 @@ pub returns-then-frame-moments : goal.returns-then-frame-moments
 unfolding has
 returns-then-frame-moments c = rw (lt-ltb _ _ c.if-frame-moments.true) refl
 
-pub returns : goal.returns
+pub returns-else-frame-moments : goal.returns-else-frame-moments
 unfolding has
-returns c = rw (le-ltb _ _ c.if-frame-moments.false) refl
+returns-else-frame-moments c = rw (le-ltb _ _ c.if-frame-moments.false) refl

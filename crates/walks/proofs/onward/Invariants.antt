@@ -8,6 +8,3 @@ use Rattle.walks.proofs.onward.Given as goal
 abbrev pub invariant-loop-at : goal.invariant-loop-at
 invariant-loop-at l =
     first_from (stops l.moments l.others l.served) l.at (l.end - l.at) ≡ first_from (stops l.moments l.others l.served) l.hand (l.end - l.hand)
-
-abbrev pub decreases-loop-at : goal.decreases-loop-at
-decreases-loop-at l = l.end - l.at

@@ -7,4 +7,4 @@ use Rattle.cache.proofs.Cache.serve.Goals as goal
 
 pub returns : goal.returns
 returns c =
-    rw c.step-s.ensures (served_steps c.args.self (formed c.args.self _ c.well_formed.0) (sound_is _ c.requires.0) c.args.page.0)
+    rw c.step-outcome.ensures (served_steps c.args.self (formed c.args.self _ c.well_formed.0) (sound_is _ c.requires.0) c.args.page.0)

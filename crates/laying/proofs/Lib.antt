@@ -1,2 +1,0 @@
--- What the proof of lay uses.
-mod Laying
