@@ -8,6 +8,7 @@ The library (tools/library) is made first where it isn't.
 
 import ctypes
 import pathlib
+import platform
 import re
 import shlex
 import shutil
@@ -432,6 +433,15 @@ def counts(program):
         case("count on a full disk", subprocess.run([program], stdout=full, stderr=subprocess.DEVNULL).returncode == 2)
 
 
+def the_needs():
+    """What the archive asks from outside, as the reference says."""
+    if platform.machine() != "x86_64":
+        return
+    told = subprocess.run(["nm", "-u", str(LIBRARY / "libhedravos.a")], capture_output=True, text=True)
+    names = {line.split()[-1] for line in told.stdout.splitlines() if line.split()[:1] == ["U"]}
+    case("names from outside", told.returncode == 0 and names == {"memcpy", "memset"})
+
+
 if __name__ == "__main__":
     subprocess.run([str(ROOT / "tools/library")], check=True, stdout=subprocess.DEVNULL)
-    sys.exit(run(the_header, the_tables, the_orders, the_examples, the_dump, the_frames, the_lines, in_c))
+    sys.exit(run(the_header, the_tables, the_orders, the_examples, the_dump, the_frames, the_lines, in_c, the_needs))

@@ -18,6 +18,8 @@ use Rattle.paging.specs.Rules.{mark, between, no_requests, rule_numbered, named,
 use Rattle.paging.specs.Walk.{entry_at, next, outcomes, faults_in, plan_in, faults, plan}
 use Rattle.paging.specs.Calls.{frame_limit, request_limit, marked, test, gate}
 use Rattle.paging.specs.declared.Entry.{Entry}
+use Rattle.paging.specs.Refusals.{Gate}
+use Rattle.paging.specs.declared.Refusal.{Refusal}
 use Rattle.paging.specs.declared.Refusal.TheVariants.{UnsoundRecord, ClockFull}
 use Rattle.paging.specs.declared.Rule.TheVariants.{Min}
 use Rattle.paging.specs.declared.Outcome.{Outcome}
@@ -58,6 +60,11 @@ unfolding gate feed_tests lookup_tests
 gate_on c p = gate_append (lookup_tests c p) (test (eqb c.clock request_limit) ClockFull ∷ [])
 
 -- where the gate is open the record is sound, and there is time for a request
+-- a gate that refuses nothing is open
+pub open_unless : (g : Gate) → ((r : Refusal) → g ≡ Err r → ⊥) → g ≡ Ok tt
+open_unless (Ok nothing) other = refl
+open_unless (Err r) other = absurd (other r refl)
+
 pub feed_taken : (c : Cache) (p : ℕ) → gate (feed_tests c p) ≡ Ok tt → (sound c ≡ true) × (c.clock < request_limit)
 unfolding gate feed_tests
 feed_taken c p e =

@@ -3,7 +3,7 @@ ghost use Rattle.std.specs.Prelude.{◌≡◌};
 ghost use Rattle.paging.specs.Calls.{gate};
 ghost use Rattle.cache.specs.Feed.{feed_tests, fed, reply_numbers};
 
-use crate::{Cache, Fed, ReplyNumbers, Served};
+use crate::{Cache, Fed, ReplyNumbers};
 use paging::{Outcome, Page, Refusal};
 
 impl Cache {
@@ -24,18 +24,17 @@ impl Cache {
     pub fn feed(self, page: Page) -> Fed
         ensures { (result ≡ fed self page.0) × (reply_numbers result.outcome ≡ reply_numbers (fed self page.0).outcome) }
     {
-        match self.feed_gate(page) {
-            Ok(()) => {
-                let Served { outcome, next } = self.serve(page);
-                Fed {
-                    outcome: Ok(outcome),
-                    next,
-                }
-            }
-            Err(refusal) => Fed {
+        // Not by a match over both, which would copy a record more.
+        if let Err(refusal) = self.feed_gate(page) {
+            return Fed {
                 outcome: Err(refusal),
                 next: self,
-            },
+            };
+        }
+        let served = self.serve(page);
+        Fed {
+            outcome: Ok(served.outcome),
+            next: served.next,
         }
     }
 }

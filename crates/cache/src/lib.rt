@@ -154,7 +154,8 @@ impl Cache {
         Ok(())
     }
 
-    // One request of a sound record.
+    // One request of a sound record. By a call of its own, so that the stack that it takes is free again while soundness is tested.
+    #[inline(never)]
     fn serve(self, page: Page) -> Served
         requires { (sound self ≡ true) × (self.clock < request_limit) }
         ensures { result ≡ served self page.0 }

@@ -1,25 +1,29 @@
 -- Laws of the chain of refusals.
 --
--- In order: a chain in two parts; refusal 6 behind any chain; what an open gate says of a call.
+-- In order: a chain in two parts; refusal 6 behind any chain; refusal 4 by the place of the mark; what an open gate says of a call.
 -- Assumes nothing.
 use Rattle.std.specs.Prelude.{Ok, Err}
 use mathlib.Core.Path.{◌≡◌, refl, sym, ◌∙◌}
 use mathlib.Core.Logic.{⊎_elim, ◌↔◌}
 use mathlib.Core.Bool.{Bool, true, false}
 use mathlib.Core.List.{List, [], ◌∷◌, ◌++◌}
-use Prim.Native.Nat.{ℕ, ◌≤◌}
+use Prim.Native.Nat.{ℕ, ◌≤◌, ◌<◌}
 use native.Mathlib.Omega.{arith}
 use lib.Dec.{ltb}
 use lib.ListN.{length}
 use borrow.Author.Tests.{le-ltb, ltb-false}
-use Rattle.paging.specs.Lists.{pick}
+use Rattle.paging.specs.Lists.{pick, mem, place_of}
+use Rattle.paging.specs.Rules.{mark}
 use Rattle.paging.specs.Calls.{frame_limit, request_limit, Test, gate, outside, marked, first_mark, trace_tests, lent_tests}
 use Rattle.paging.specs.Meanings.{InOrder}
 use Rattle.paging.specs.Refusals.{Gate}
 use Rattle.paging.specs.declared.Refusal.{Refusal}
+use Rattle.paging.specs.declared.Refusal.TheVariants.{MarkRequested}
 use Rattle.paging.proofs.Lists.{true≢false, bool_cases}
+use Rattle.paging.proofs.Held.{place_out}
 use Rattle.paging.proofs.Calls.{first_mark_lem, no_mark}
 use Rattle.calls.specs.Chain.{and_then, lent_gate}
+use Rattle.calls.proofs.Search.{found_mem}
 
 -- a chain in two parts: the first part's refusal decides, else the second part
 pub gate_append : (xs ys : List Test) → gate (xs ++ ys) ≡ and_then (gate xs) (gate ys)
@@ -37,6 +41,16 @@ pub gate_lent : (xs : List Test) (trace words : List ℕ)
     → lent_gate (gate xs) (length trace) (length words) ≡ gate (xs ++ lent_tests trace words)
 unfolding gate lent_tests
 gate_lent xs trace words = sym (gate_append xs (lent_tests trace words))
+
+-- refusal 4, where 2 and 3 aren't given: by the place of the mark among the requests
+module _ (n : ℕ) (trace : List ℕ) (sized : outside n ≡ false) (short : length trace ≤ request_limit) where
+  pub gate_marked : place_of mark trace < length trace → gate (trace_tests n trace) ≡ Err (MarkRequested (place_of mark trace))
+  unfolding gate trace_tests place_of mem
+  gate_marked h = rw (sized, le-ltb _ _ short, found_mem mark trace h)
+
+  pub gate_open : length trace ≤ place_of mark trace → gate (trace_tests n trace) ≡ Ok tt
+  unfolding gate trace_tests place_of mem
+  gate_open h = rw (sized, le-ltb _ _ short, place_out mark trace h)
 
 -- ---- what an open gate says of a call
 

@@ -26,6 +26,13 @@ use Rattle.entries.specs.Devices.Search.{in_use, key_of, has_least, least_frame}
 
 -- ---- the entries in use
 
+pub in_use_room : (held : ℕ) → in_use held ≤ frame_limit
+in_use_room held = go (ltb frame_limit held) refl
+  where
+    go : (b : Bool) → ltb frame_limit held ≡ b → pick b frame_limit held ≤ frame_limit
+    go true q = omega arith
+    go false q = ltb-false _ _ q
+
 pub take_in_use : (held : ℕ) (es : List Entry) → length es ≡ frame_limit → take (in_use held) es ≡ take held es
 take_in_use held es size = go (ltb frame_limit held) refl
   where

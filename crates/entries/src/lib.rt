@@ -55,7 +55,8 @@ fn in_use(held: u32) -> usize
     held.min(calls::FRAMES) as usize
 }
 
-// The frame that holds a page.
+// The frame that holds a page. By a call of its own, as its loop is: laid into Feed, it keeps the compiler from seeing which arrays need no filling.
+#[inline(never)]
 pub fn find(entries: [Entry; LENGTH], held: u32, page: Page) -> Option<Frame>
     ensures { result ≡ found page.0 (pages (take held entries)) }
 {
@@ -76,7 +77,8 @@ fn key(e: Entry, rule: u32) -> u64
     }
 }
 
-// The first frame in use whose entry has the least key; frame 0 and no Option, if none is in use, as the clause says (`least_frame`).
+// The first frame in use whose entry has the least key; frame 0 and no Option, if none is in use, as the clause says (`least_frame`). By a call of its own, as `find`.
+#[inline(never)]
 pub fn least(entries: [Entry; LENGTH], held: u32, rule: u32) -> Frame
     ensures { result.0 ≡ least_frame rule (take held entries) }
 {

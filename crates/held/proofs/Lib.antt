@@ -1,5 +1,4 @@
 -- What the proofs of the pages held use, and what walks that hold pages use of them.
 pub mod Counting
-pub mod Buckets
 pub mod Keeping
 pub mod Placing

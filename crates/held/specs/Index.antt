@@ -2,11 +2,10 @@
 --
 -- In order: hashes; how often one occurs; the pages held with their index.
 -- Assumes nothing.
-use Rattle.std.specs.Prelude.{◌≡◌, List, [], ◌∷◌, map, ℕ, ◌+◌, ◌*◌, ◌/◌, ◌%◌, ◌≤◌, ◌<◌, eqb, length, get_or, take}
+use Rattle.std.specs.Prelude.{◌≡◌, List, [], ◌∷◌, ℕ, ◌+◌, ◌*◌, ◌/◌, ◌%◌, ◌≤◌, ◌<◌, eqb, length, get_or, take}
 use Rattle.paging.specs.Lists.{pick}
 use Rattle.paging.specs.Calls.{frame_limit}
 use Rattle.paging.specs.Meanings.{Apart}
-use Rattle.held.specs.declared.Bucket.{Bucket}
 
 -- ---- hashes
 
@@ -31,10 +30,6 @@ hashed h [] = 0
 hashed h (p ∷ ps) = hits h p + hashed h ps
 
 -- ---- the pages held with their index
-
--- how many held pages have each hash
-abbrev pub counts_of : List Bucket → List ℕ
-counts_of buckets = map (λ (b : Bucket). b.count) buckets
 
 -- the first `held` words are the pages held, all different, and every count is right
 pub record Indexed (held : ℕ) (words counts : List ℕ) : Type 0 where

@@ -5,7 +5,7 @@
 ghost use Rattle.std.specs.Prelude.{◌≡◌, ◌⊎◌, ◌∷◌, [], ◌++◌, ◌≤◌, ◌<◌, ℕ, List, length, take, set, None, Some};
 ghost use Rattle.paging.specs.Calls.{frame_limit};
 ghost use Rattle.paging.specs.Held.{found};
-ghost use Rattle.held.specs.Index.{hashes, hash_of, counts_of, Indexed};
+ghost use Rattle.held.specs.Index.{hashes, hash_of, Indexed};
 ghost use Rattle.held.specs.Placing.{put_outcome, put_pages};
 
 use paging::{Frame, Outcome, Page};
@@ -16,20 +16,15 @@ pub const FRAMES: usize = calls::FRAMES as usize;
 
 pub const HASHES: usize = 2048;
 
-// Of a hash: how many held pages have it, and a frame where a page of it was put last, which is only a guess. Side by side, as a search reads both: 4 bytes and not 3.
-#[derive(Clone, Copy)]
-pub struct Bucket {
-    pub count: u16,
-    pub hint: u8,
-}
-
-// `pages` has the page of each frame, of which the first `count` are in use; `buckets` has one for each hash. Arrays, since the walks have no heap.
+// `pages` has the page of each frame, of which the first `count` are in use; `counts` has for each hash how many held pages have it, `hints` a frame where a page of it was put last, which is only a guess.
+// Two arrays, as one of both would take four bytes of the stack for each hash in place of three. Arrays, since the walks have no heap.
 // Public, so that whoever has such arrays in order can make one of them: the literal asks for the invariant.
 #[derive(Drop)]
 pub struct Held {
     pub pages: [u32; FRAMES],
     pub count: usize,
-    pub buckets: [Bucket; HASHES],
+    pub counts: [u16; HASHES],
+    pub hints: [u8; HASHES],
 }
 
 impl Model for Held {
@@ -37,7 +32,7 @@ impl Model for Held {
 
     ghost view = { λ h. take h.count h.pages };
 
-    ghost invariant = { λ h. Indexed h.count h.pages (counts_of h.buckets) };
+    ghost invariant = { λ h. Indexed h.count h.pages h.counts };
 }
 
 // The top eleven bits of a product of 32 bits: pages that stand close together get hashes far apart.
@@ -50,14 +45,15 @@ fn hash(page: u32) -> usize
 
 impl Held {
     // Nothing held.
-    #[tactic(auto, using(crate::proofs::Keeping::index_starts, crate::proofs::Buckets::buckets_start))]
+    #[tactic(auto, using(crate::proofs::Keeping::index_starts))]
     pub fn new() -> Held
         ensures { result ≡ [] }
     {
         Held {
             pages: [0; FRAMES],
             count: 0,
-            buckets: [Bucket { count: 0, hint: 0 }; HASHES],
+            counts: [0; HASHES],
+            hints: [0; HASHES],
         }
     }
 
@@ -77,17 +73,16 @@ impl Held {
     }
 
     // The frame that holds the page, or none. Pages are looked through one by one only where the count and the hint don't settle it.
-    #[tactic(auto, using(crate::proofs::Keeping::absent_zero, crate::proofs::Keeping::absent_one, crate::proofs::Keeping::found_hinted, crate::proofs::Keeping::found_searched, crate::proofs::Keeping::absent_searched, crate::proofs::Buckets::count_at))]
+    #[tactic(auto, using(crate::proofs::Keeping::absent_zero, crate::proofs::Keeping::absent_one, crate::proofs::Keeping::found_hinted, crate::proofs::Keeping::found_searched, crate::proofs::Keeping::absent_searched))]
     pub fn find(&self, page: Page) -> Option<Frame>
         ensures { result ≡ found page.0 self.now }
     {
         let h = hash(page.0);
-        // Field by field: a whole bucket read right after one of its fields was written has to wait for that.
-        let count = self.buckets[h].count;
+        let count = self.counts[h];
         if count == 0 {
             return None;
         }
-        let hint = self.buckets[h].hint as usize;
+        let hint = self.hints[h] as usize;
         if hint < self.count {
             let there = self.pages[hint];
             if there == page.0 {
@@ -112,10 +107,8 @@ impl Held {
     {
         let held = self.count;
         let h = hash(page.0);
-        self.buckets[h] = Bucket {
-            count: self.buckets[h].count + 1,
-            hint: held as u8,
-        };
+        self.counts[h] += 1;
+        self.hints[h] = held as u8;
         self.pages[held] = page.0;
         self.count += 1;
     }
@@ -127,12 +120,10 @@ impl Held {
     {
         let at = frame.0 as usize;
         let goes = hash(self.pages[at]);
-        self.buckets[goes].count -= 1;
+        self.counts[goes] -= 1;
         let comes = hash(page.0);
-        self.buckets[comes] = Bucket {
-            count: self.buckets[comes].count + 1,
-            hint: frame.0 as u8,
-        };
+        self.counts[comes] += 1;
+        self.hints[comes] = frame.0 as u8;
         self.pages[at] = page.0;
     }
 

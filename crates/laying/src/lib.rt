@@ -11,6 +11,11 @@ ghost use Rattle.paging.specs.Services.{laid};
 pub fn lay(numbers: &[u32], words: &mut [u32])
     ensures { words.new ≡ laid numbers.now words.old }
 {
-    let n = numbers.len().min(words.len());
-    words[..n].copy_from_slice(&numbers[..n]);
+    // By an element, and no copy_from_slice: a list that may be any caller's own would then ask the archive for C for `memmove`.
+    for (i, number) in numbers.iter().enumerate() {
+        if words.len() <= i {
+            return;
+        }
+        words[i] = *number;
+    }
 }

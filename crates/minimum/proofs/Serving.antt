@@ -21,7 +21,8 @@ use Rattle.paging.proofs.Held.{nowhere_found}
 use Rattle.paging.proofs.Frames.{pages_length, pages_at, mem_pages, absent_at, held_differ}
 use Rattle.walks.specs.Tied.{held_before, choice_at, seat_at, told_at, Within}
 use Rattle.walks.proofs.Walking.{Served, size, seat_low, seat_serves}
-use Rattle.minimum.specs.Devices.Turns.{turn_of, Behind, Fair}
+use Rattle.minimum.specs.Devices.Turns.{turn_of, Behind}
+use Rattle.minimum.specs.Fair.{Fair}
 use Rattle.minimum.proofs.Farthest.{next_nearer, chosen_same, farthest_is}
 
 -- with nothing held

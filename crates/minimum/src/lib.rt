@@ -6,7 +6,8 @@ ghost use Rattle.paging.specs.Calls.{frame_limit, request_limit, trace_tests};
 ghost use Rattle.paging.specs.Services.{answered, written};
 ghost use Rattle.paging.specs.Walk.{entries_at};
 ghost use Rattle.paging.specs.declared.Rule.TheVariants.{Min};
-ghost use Rattle.minimum.specs.Devices.Turns.{turn_of, goes_before, Behind, Fair};
+ghost use Rattle.minimum.specs.Devices.Turns.{turn_of, goes_before, Behind};
+ghost use Rattle.minimum.specs.Fair.{Fair};
 
 use held::Held;
 use paging::{Frame, Outcome, Refusal};

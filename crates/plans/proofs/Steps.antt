@@ -8,7 +8,8 @@ use Prim.Native.Nat.{ℕ, ◌+◌, ◌≤◌, ◌<◌}
 use native.Mathlib.Numerals.{add-one}
 use native.Mathlib.Omega.{arith}
 use native.Mathlib.Decide.{dec_lt}
-use lib.ListN.{length, length-set, length-append}
+use lib.ListN.{length, get_or, drop, length-set, length-append, length-drop}
+use lib.Seq.{drop-cons}
 use borrow.Author.Tests.{lt-ltb, le-ltb}
 use Rattle.paging.specs.Calls.{frame_limit}
 use Rattle.paging.specs.Held.{found, frame_after, Found}
@@ -40,6 +41,12 @@ put_few p f before h l = elim (dec_lt f (length before)) [
   | yes k ↦ rw (lt-ltb f (length before) k, length-set before f p) l
   | no k ↦ rw (le-ltb f (length before) (omega arith), length-append before (p ∷ [])) (omega arith)
 ]
+
+-- what is left of the check at moment t: its request with its entry, then the others
+pub check_from_on : (m t f : ℕ) (held trace words : List ℕ) → t < length trace → length trace ≤ length words
+    → check_from m t f held (drop t trace) (drop t words)
+    ≡ check_from m t f held (get_or trace t 0 ∷ drop (t + 1) trace) (get_or words t 0 ∷ drop (t + 1) words)
+check_from_on m t f held trace words h l = rw (drop-cons trace t 0 h, drop-cons words t 0 (omega arith), add-one) refl
 
 -- nothing is left of the check
 pub check_end : (m t f : ℕ) (held ps ws : List ℕ) → length ps ≡ 0 → check_from m t f held ps ws ≡ Ok f

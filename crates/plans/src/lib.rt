@@ -40,16 +40,18 @@ fn judge_entry(m: u32, t: Moment, p: Page, w: Page, held: &Held) -> Result<Frame
     held.find(w).ok_or(broken)
 }
 
-// The walk of a plan from an empty cache, where refusals 2, 3, 4 and 6 are not given.
+// The walk of a plan from an empty cache, where refusals 2, 3, 4 and 6 are not given. By a call of its own: laid into a caller in C, the loop keeps its bounds in memory.
+#[inline(never)]
 fn walked(m: u32, trace: &[u32], words: &[u32]) -> Result<u32, Refusal>
     requires { (m ≤ frame_limit) × (length trace.now ≤ request_limit) × (length trace.now ≤ length words.now) }
     ensures { result ≡ check m trace.now words.now }
 {
     let mut held = Held::new();
     let mut faults: u32 = 0;
-    for (t, (page, entry)) in trace.iter().zip(words).enumerate() {
+    // The entry by its place, and not by `zip`, which counts both lists down: a quarter longer for each request.
+    for (t, page) in trace.iter().enumerate() {
         let p = Page(*page);
-        let w = Page(*entry);
+        let w = Page(words[t]);
         let frame = judge_entry(m, Moment(t as u32), p, w, &held)?;
         faults += held.put(p, frame).fault();
     }

@@ -21,11 +21,11 @@ use Rattle.words.proofs.Bytes.{length_words}
 
 -- ---- a mark is told where there is one
 
-mark_found : (words : List ℕ) → first_mark words < length words → marked words ≡ true
+pub mark_found : (words : List ℕ) → first_mark words < length words → marked words ≡ true
 unfolding marked first_mark mem place_of
 mark_found words h = found_mem mark words h
 
-mark_lost : (words : List ℕ) → length words ≤ first_mark words → marked words ≡ false
+pub mark_lost : (words : List ℕ) → length words ≤ first_mark words → marked words ≡ false
 unfolding marked first_mark mem place_of
 mark_lost words h = place_out mark words h
 

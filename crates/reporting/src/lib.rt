@@ -4,7 +4,7 @@
 
 ghost use Rattle.std.specs.Prelude.{◌≡◌, length, take};
 ghost use Rattle.paging.specs.Services.{laid};
-ghost use Rattle.text.specs.Devices.{Wrote};
+ghost use Rattle.text.specs.Writing.{Wrote};
 ghost use Rattle.reporting.specs.Report.{rule_line, claimed, claim_line, rules_text, lines_of, report_of};
 
 use calls::AnswerNumbers;

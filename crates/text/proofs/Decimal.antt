@@ -12,12 +12,12 @@ use Rattle.std.proofs.Math.Nat.{div-mul-le_self, lt-div-mul-add, div-div-eq-div-
 use Rattle.text.specs.Decimal.{digit_at, decimal}
 
 -- no digit for a power above the number
-none_at : (x power : ℕ) → x < power → digit_at x power ≡ []
+pub none_at : (x power : ℕ) → x < power → digit_at x power ≡ []
 unfolding digit_at
 none_at x power h = rw (lt-ltb _ _ h) refl
 
 -- a digit for a power that is not above the number
-one_at : (x power : ℕ) → power ≤ x → digit_at x power ≡ (48 + x / power % 10) ∷ []
+pub one_at : (x power : ℕ) → power ≤ x → digit_at x power ≡ (48 + x / power % 10) ∷ []
 unfolding digit_at
 one_at x power h = rw (le-ltb _ _ h) refl
 

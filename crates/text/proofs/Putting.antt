@@ -1,15 +1,15 @@
 -- Laws of bytes put into a room: one byte, some bytes behind others, and a whole text from the front of the room.
 -- Assumes nothing.
-use mathlib.Core.Path.{◌≡◌, refl, sym, ap₂, subst, ◌∙◌}
+use mathlib.Core.Path.{◌≡◌, refl, sym, ap, ap₂, subst, ◌∙◌}
 use mathlib.Core.List.{List, [], ◌∷◌, ◌++◌}
 use Prim.Native.Nat.{ℕ, suc, ◌+◌, ◌≤◌, ◌<◌}
 use native.Mathlib.Omega.{arith}
-use lib.ListN.{length, get_or, take, set, length-append}
+use lib.ListN.{length, get_or, take, set, length-append, length-set}
 use lib.Seq.{take-suc, append_snoc, set_at, set_out, drop-nil, take-nil}
 use borrow.Author.Tests.{lt-ltb, le-ltb}
 use Rattle.paging.specs.Services.{laid}
 use Rattle.text.specs.Putting.{behind, place_behind, room_behind}
-use Rattle.text.specs.Devices.{Put, Wrote}
+use Rattle.text.specs.Writing.{Put, Wrote}
 use Rattle.text.specs.declared.Writer.{Writer}
 
 pub put_none : (at : ℕ) (room : List ℕ) → Put at [] room at room
@@ -48,6 +48,14 @@ pub put_next : (at : ℕ) (bytes room : List ℕ) (i next : ℕ) (between : List
 put_next at bytes room i next between place left h p q =
     let e : i + 1 ≡ suc i = omega arith in
     rw (e, take-suc bytes i 0 h) (put_then p q)
+
+length_after : (bytes room : List ℕ) (at : ℕ) → length (room_behind at bytes room) ≡ length room
+unfolding room_behind
+length_after [] room at = refl
+length_after (b ∷ bytes) room at = length_after bytes (set room at b) (behind at room) ∙ length-set room at b
+
+pub put_length : {at : ℕ} {bytes room : List ℕ} {place : ℕ} {left : List ℕ} → Put at bytes room place left → length left ≡ length room
+put_length {at} {bytes} {room} p = ap length p.room_is ∙ length_after bytes room at
 
 -- ---- what the methods of a writer say
 

@@ -2,4 +2,4 @@
 pub mod Putting
 pub mod Decimal
 pub mod Lines
-pub mod Devices
+pub mod Writing

@@ -6,7 +6,7 @@
 ghost use Rattle.std.specs.Prelude.{◌≡◌, [], ◌∷◌};
 ghost use Rattle.text.specs.Decimal.{decimal};
 ghost use Rattle.text.specs.Lines.{pair, refused_line, line};
-ghost use Rattle.text.specs.Devices.{Wrote};
+ghost use Rattle.text.specs.Writing.{Wrote};
 
 use paging::Refusal;
 
@@ -59,7 +59,8 @@ impl<'a> Writer<'a> {
     pub fn number(&mut self, x: u32)
         ensures { Wrote self.old (decimal x) self.new }
     {
-        if 9 < x {
+        let tens = 9 < x;
+        if tens {
             self.number(x / 10);
         }
         self.put(b'0' + (x % 10) as u8);

@@ -34,12 +34,13 @@ fn answer(rt: &impl Print, line: &Line, record: &mut [u32; WORDS]) -> io::Result
 }
 
 // A line with its end: what stands before the colon is its name, and all of it where there is none. A last line with no end is not answered.
-fn run(rt: &impl Print, text: &[u8], record: &mut [u32; WORDS]) -> io::Result<()> {
+fn run(rt: &impl Print, text: &[u8], line: &mut Line, record: &mut [u32; WORDS]) -> io::Result<()> {
     let colon = text.iter().position(|byte| *byte == b':');
     let (name, asked) = text.split_at(colon.unwrap_or(text.len()));
     rt.write_all(name)?;
     if text.ends_with(b"\n") {
-        answer(rt, &Line::read(asked.get(1..).unwrap_or(&[])), record)?;
+        line.read(asked.get(1..).unwrap_or(&[]));
+        answer(rt, line, record)?;
         println!(rt)?;
     }
     Ok(())
@@ -48,9 +49,10 @@ fn run(rt: &impl Print, text: &[u8], record: &mut [u32; WORDS]) -> io::Result<()
 fn main(rt: HostRuntime) -> io::Result<()> {
     let mut script = [0u8; 65536];
     let read = read_full(&mut rt.reader(), &mut script)?;
+    let mut line = Line::new();
     let mut record = [MARK; WORDS];
     for text in script[..read].split_inclusive(|byte| *byte == b'\n') {
-        run(&rt, text, &mut record)?;
+        run(&rt, text, &mut line, &mut record)?;
     }
     Ok(())
 }

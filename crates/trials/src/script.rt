@@ -87,9 +87,9 @@ pub(crate) struct Line {
 }
 
 impl Line {
-    // Of what stands behind a line's colon.
-    pub(crate) fn read(asked: &[u8]) -> Line {
-        let mut line = Line {
+    // Made once, as its words are many, and lent to each line.
+    pub(crate) fn new() -> Line {
+        Line {
             verb: None,
             stage: Stage::Between,
             words: [MARK; ROOM],
@@ -97,11 +97,28 @@ impl Line {
             first: None,
             second: None,
             third: None,
-        };
-        for byte in asked {
-            line.step(*byte);
         }
-        line
+    }
+
+    // What stands behind a line's colon, in place of the line before.
+    pub(crate) fn read(&mut self, asked: &[u8]) {
+        self.begin();
+        for byte in asked {
+            self.step(*byte);
+        }
+    }
+
+    // Nothing read: the words that were put are marks again, as those behind them still are.
+    fn begin(&mut self) {
+        if let Some(put) = self.words.get_mut(..self.place) {
+            put.fill(MARK);
+        }
+        self.place = 0;
+        self.verb = None;
+        self.stage = Stage::Between;
+        self.first = None;
+        self.second = None;
+        self.third = None;
     }
 
     fn step(&mut self, byte: u8) {

@@ -1,3 +1,4 @@
 -- What the proofs of the rules' walks use.
 pub mod Hands
+pub mod Numbers
 pub mod Walking

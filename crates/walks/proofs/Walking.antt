@@ -29,10 +29,14 @@ use Rattle.paging.proofs.Lists.{length_snoc, get_or_snoc_old}
 use Rattle.paging.proofs.Choice.{chosen_below}
 use Rattle.paging.proofs.Held.{found_there, found_nowhere}
 use Rattle.paging.proofs.Frames.{pages_length, pages_at, mem_pages, held_frame, Ways, ways, outcome_hit, outcome_room, outcome_full, next_hit, next_room, next_full, pages_after, held_at_most}
-use Rattle.paging.proofs.Writing.{Running, running_starts, running_steps, running_ends}
+use Rattle.paging.proofs.Writing.{Running, running_starts, running_steps, running_ends, fault_most}
 use Rattle.held.specs.Placing.{put_outcome, put_pages}
 use Rattle.held.proofs.Placing.{Going, put_fits, put_after, put_told}
 use Rattle.walks.specs.Tied.{held_before, choice_at, seat_at, told_at, Within}
+
+-- a page put into a frame faults at most once
+pub put_most : (p f : ℕ) (held : List ℕ) (fault : ℕ) → fault ≡ fault_of (put_outcome p f held) → fault ≤ 1
+put_most p f held fault e = rw e (fault_most (put_outcome p f held))
 
 -- ---- what a request does to each entry
 
@@ -142,6 +146,13 @@ module _ (rule : Rule) (n : ℕ) (trace : List ℕ) (t : ℕ) where
         go None true e l = refl
         go None false e l = knows (omega (arith, ltb-false (length (held_before rule n trace t)) n e, l))
 
+    -- and then it is in use
+    pub goes_in : 1 ≤ n → (goes : ℕ) → (n ≤ length held → goes ≡ choice_at rule n trace t) → n ≤ length held → goes < length held
+    unfolding choice_at held_before
+    goes_in some goes knows full =
+        let l : length held ≡ length es = ap length same ∙ pages_length es in
+        omega (arith, knows full, l, chosen_below rule (sees_at trace t) es (omega (arith, l)))
+
   module _ (some : 1 ≤ n) (frame : Frame) (is : frame.0 ≡ seat_at rule n trace t) where
     abbrev pub f : ℕ
     f = frame.0
@@ -238,11 +249,11 @@ module _ (rule : Rule) (n : ℕ) (trace words₀ : List ℕ) where
 
     -- its page is put into the frame, and the outcome read, in the code's own numbers
     module _
-        (x : Within n trace i) (frame : Frame) (is : frame.0 ≡ seat_at rule n trace i)
+        (some : 1 ≤ n) (more : i < length trace) (frame : Frame) (is : frame.0 ≡ seat_at rule n trace i)
         (o : Outcome) (told : o ≡ put_outcome (get_or trace i 0) frame.0 held)
       where
         pub walk_told : o ≡ told_at rule n trace i
-        walk_told = told ∙ ap (put_outcome (get_or trace i 0) frame.0) w.same ∙ seat_told rule n trace i x.some frame is
+        walk_told = told ∙ ap (put_outcome (get_or trace i 0) frame.0) w.same ∙ seat_told rule n trace i some frame is
 
         pub walk_steps : (held' : List ℕ) → held' ≡ put_pages (get_or trace i 0) frame.0 held
             → (words' : List ℕ) → words' ≡ set words i (word_of o) → (fault : ℕ) → fault ≡ fault_of o
@@ -251,8 +262,8 @@ module _ (rule : Rule) (n : ℕ) (trace words₀ : List ℕ) where
         walk_steps held' e words' a fault b =
             rw (a, b)
             record {
-              running = running_steps rule n trace words₀ words fs i w.running x.inside o walk_told;
-              same = e ∙ ap (put_pages (get_or trace i 0) frame.0) w.same ∙ seat_held rule n trace i x.some frame is;
+              running = running_steps rule n trace words₀ words fs i w.running more o walk_told;
+              same = e ∙ ap (put_pages (get_or trace i 0) frame.0) w.same ∙ seat_held rule n trace i some frame is;
             }
 
     -- so far there are no more faults than requests
@@ -261,3 +272,10 @@ module _ (rule : Rule) (n : ℕ) (trace words₀ : List ℕ) where
 
     pub walk_ends : length trace ≤ i → (fs ≡ faults rule n trace) × (words ≡ laid (plan rule n trace) words₀)
     walk_ends all = running_ends rule n trace words₀ words fs i w.running all
+
+-- the limits of frames and requests are not asked for: so of any walk
+pub told_of_any : (rule : Rule) (n : ℕ) (trace words₀ words held : List ℕ) (fs i : ℕ) → Walk rule n trace words₀ words held fs i
+    → 1 ≤ n → i < length trace → (frame : Frame) → frame.0 ≡ seat_at rule n trace i
+    → (o : Outcome) → o ≡ put_outcome (get_or trace i 0) frame.0 held → o ≡ told_at rule n trace i
+told_of_any rule n trace words₀ words held fs i w some more frame is o told =
+    walk_told rule n trace words₀ words held fs i w some more frame is o told

@@ -122,8 +122,8 @@ fn walked<P: Policy + Drop>(n: u32, trace: &[u32], words: &mut [u32]) -> u32
     for t in 0..trace.len() {
         let frame = seat(&mut policy, n as usize, trace, t, &held);
         let outcome = held.put(Page(trace[t]), frame);
-        policy.served(n as usize, trace, t, frame, outcome);
         faults += told(outcome, t, words);
+        policy.served(n as usize, trace, t, frame, outcome);
     }
     faults
 }

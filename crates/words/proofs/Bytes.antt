@@ -26,7 +26,7 @@ pub word_whole : (file : List ℕ) (at : ℕ) → at + 4 ≤ length file → wor
 unfolding word_in
 word_whole file at h = rw (le-ltb _ _ h)
 
-words_more : (file : List ℕ) (at count : ℕ) → words_at file at (suc count) ≡ words_at file at count ++ (word_at file (at + 4 * count) ∷ [])
+pub words_more : (file : List ℕ) (at count : ℕ) → words_at file at (suc count) ≡ words_at file at count ++ (word_at file (at + 4 * count) ∷ [])
 unfolding words_at
 words_more file at zero = let e : at + 4 * 0 ≡ at = omega arith in rw e
 words_more file at (suc count) =
@@ -35,7 +35,7 @@ words_more file at (suc count) =
 
 -- ---- a list that grows at the front of lent words
 
-lay_next : (done : List ℕ) (word i : ℕ) (lent : List ℕ) → length done ≡ i → i < length lent
+pub lay_next : (done : List ℕ) (word i : ℕ) (lent : List ℕ) → length done ≡ i → i < length lent
     → set (done ++ drop i lent) i word ≡ done ++ (word ∷ []) ++ drop (i + 1) lent
 lay_next done word i lent e h =
     ap (λ (xs : List ℕ). set (done ++ xs) i word) (drop-cons lent i 0 h)

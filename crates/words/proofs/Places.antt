@@ -12,10 +12,10 @@ use Rattle.words.specs.Bytes.{word_in, words_at}
 use Rattle.words.specs.Places.{bytes_from, place_after, words_held, section_over}
 use Rattle.words.proofs.Bytes.{word_missing}
 
-after_end : (file : List ℕ) (at bytes : ℕ) → bytes_from file at < bytes → place_after file at bytes ≡ length file
+pub after_end : (file : List ℕ) (at bytes : ℕ) → bytes_from file at < bytes → place_after file at bytes ≡ length file
 after_end file at bytes h = rw (lt-ltb _ _ h)
 
-after_whole : (file : List ℕ) (at bytes : ℕ) → bytes ≤ bytes_from file at → place_after file at bytes ≡ at + bytes
+pub after_whole : (file : List ℕ) (at bytes : ℕ) → bytes ≤ bytes_from file at → place_after file at bytes ≡ at + bytes
 after_whole file at bytes h = rw (le-ltb _ _ h)
 
 -- past the end there is no word, and none at the end
@@ -33,12 +33,16 @@ word_after file at = go (ltb (length file) at) refl
         let z : 0 + at ≡ at = omega arith in
         rw (e, z)
 
+-- a copy that has words stays in the file and in the room
+pub held_fits : (file : List ℕ) (at count room : ℕ) → 0 < words_held file at count room → (at + 4 * words_held file at count room ≤ length file) × (words_held file at count room ≤ room)
+held_fits file at count room h = (omega (arith, h), omega arith)
+
 pub over_none : (file : List ℕ) (at count : ℕ) (out : List ℕ) → words_held file at count (length out) ≡ 0 → section_over file at count out ≡ out
 unfolding words_at
 over_none file at count out z = ap (λ (k : ℕ). words_at file at k ++ drop k out) z
 
 -- a copy that fits both sides has all that is asked
-held_whole : (file : List ℕ) (at count room : ℕ) → at + 4 * count ≤ length file → count ≤ room → words_held file at count room ≡ count
+pub held_whole : (file : List ℕ) (at count room : ℕ) → at + 4 * count ≤ length file → count ≤ room → words_held file at count room ≡ count
 held_whole file at count room f r =
     let q : count ≤ bytes_from file at / 4 = omega arith in omega arith
 

@@ -18,12 +18,12 @@ put-outcome-requires g c =
 
 pub served-requires-clause-told : goal.served-requires-clause-told
 served-requires-clause-told g c =
-    walk_told _ _ _ _ _ _ _ _ c.loop-t.invariant.0 (within g (goal.at.served-requires-clause-told g c).In-loop-t) _ c.seat-frame.ensures.seat
+    walk_told _ _ _ _ _ _ _ _ c.loop-t.invariant.0 c.requires.0 c.loop-t-test.true _ c.seat-frame.ensures.seat
     _ c.put-outcome.ensures.told
 
 pub loop-t-preserved : goal.loop-t-preserved
 loop-t-preserved g c = (
-  walk_steps _ _ _ _ _ _ _ _ c.loop-t.invariant.0 (within g (goal.at.loop-t-preserved g c).In-loop-t) _ c.seat-frame.ensures.seat
+  walk_steps _ _ _ _ _ _ _ _ c.loop-t.invariant.0 c.requires.0 c.loop-t-test.true _ c.seat-frame.ensures.seat
       _ c.put-outcome.ensures.told _ c.put-outcome.ensures.pages _ c.told-faults.ensures.1 _ c.told-faults.ensures.0,
   c.served.ensures,
 )

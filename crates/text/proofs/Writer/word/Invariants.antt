@@ -1,7 +1,7 @@
 -- `text::Writer::word` meets its contract: the bytes passed are put.
 -- Assumes nothing.
 use lib.ListN.{take}
-use Rattle.text.specs.Devices.{Wrote}
+use Rattle.text.specs.Writing.{Wrote}
 use Rattle.text.proofs.Writer.word.Given as goal
 
 abbrev pub invariant-loop-byte : goal.invariant-loop-byte

@@ -1,4 +1,4 @@
--- Devices: what the proofs carry of what puts bytes into a room.
+-- What a writer's methods promise: which bytes they put into its room, and where.
 -- Assumes nothing.
 use Rattle.std.specs.Prelude.{◌≡◌, List, ℕ}
 use Rattle.text.specs.Putting.{place_behind, room_behind}

@@ -1,0 +1,2 @@
+-- What the proof of lay uses.
+mod Laying
